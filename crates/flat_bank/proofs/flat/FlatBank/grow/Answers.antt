@@ -1,0 +1,36 @@
+use mathlib.Core.Path.{refl}
+use native.Mathlib.Omega.{arith}
+use lib.ListN.{drop}
+use Rattle.std.proofs.shelf.Lists.{drop-set-lt}
+use Rattle.flat_bank.specs.Flat.{places}
+use Rattle.flat_bank.specs.Shape.{row-within}
+use Rattle.flat_bank.proofs.Entries.{number-within, thread-entry}
+use Rattle.flat_bank.proofs.Moves.{grow-rows}
+use Rattle.flat_bank.proofs.flat.FlatBank.grow.Needs as need
+
+pub index-self-place : need.index-self-place
+index-self-place c =
+  let self = c .args .self .now in
+  number-within (self .threads) (self .slots) (c .args .thread) (c .args .thread) _ (omega arith) (omega arith) (self .fits)
+
+pub add-self : need.add-self
+add-self c =
+  let self = c .args .self .now in
+  omega (arith, thread-entry (self .threads) (self .slots) (self .table .cells .now) (c .args .thread) (c .args .thread) (omega arith) (omega arith))
+
+pub index-self-place-2 : need.index-self-place-2
+index-self-place-2 c =
+  let self = c .args .self .now in
+  number-within (self .threads) (self .slots) (c .args .thread) (c .args .thread) _ (omega arith) (omega arith) (self .fits)
+
+pub returns : need.returns
+returns c =
+  let self = c .args .self .now in
+  let k = self .threads in
+  let t = c .args .thread in
+  record {
+    threads = refl;
+    slots = refl;
+    rows = grow-rows k (self .slots) (self .table .cells .now) (self .fits) t (omega arith);
+    behind = drop-set-lt (places k (self .slots)) (self .table .cells .now) _ _ (number-within k (self .slots) t t _ (omega arith) (omega arith) (omega arith))
+  }
