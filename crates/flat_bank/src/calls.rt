@@ -1,12 +1,13 @@
-// The calls of the flat bank.
+// What an advance does to runs of the table, and the calls of the flat bank.
 ghost use mathlib.Core.Path.{_≡_};
-ghost use mathlib.Core.List.{[]};
-ghost use Prim.Native.Nat.{ℕ, _+_, _*_, _<_};
-ghost use lib.ListN.{length, getD, drop};
-ghost use Rattle.clock_bank.specs.Rows.{fresh, entry, advanced};
+ghost use mathlib.Core.List.{_++_};
+ghost use Prim.Native.Nat.{ℕ, _+_, _*_, _<_, _≤_};
+ghost use lib.ListN.{length, getD, drop, replicate};
+ghost use lib.Seq.{paste};
+ghost use Rattle.clock_bank.specs.Rows.{fresh, entry, larger, advanced};
 ghost use Rattle.clock_bank.specs.Steps.{growing, taking, posting};
 ghost use Rattle.clock_bank.specs.Faults.{or-fault, unless, has-slot, thread-entry-fault, slot-entry-fault, advance-fault};
-ghost use Rattle.flat_bank.specs.Flat.{places, flat-fault, cleared};
+ghost use Rattle.flat_bank.specs.Flat.{run, places, flat-fault, cleared};
 ghost use Rattle.flat_bank.specs.Shape.{flat-shaped};
 ghost use Rattle.flat_bank.specs.View.{view, rest, Becomes};
 ghost use mathlib.Core.Bool.{true};
@@ -15,6 +16,42 @@ use clock_bank::bank::Bank;
 use clock_bank::fault::{BankFault, check_advance, check_counts};
 use crate::flat::FlatBank;
 use crate::table::Table;
+
+impl<'a> Table<'a> {
+    // The first `count` numbers become 0.
+    fn clear(&mut self, count: usize)
+        requires { ⌜ count ≤ length (now (now self .cells)) ⌝ }
+        ensures { λ _. ⌜ now (now (self .exit) .cells) ≡ replicate count 0 ++ drop count (now (now (self .entry) .cells)) ⌝ }
+    {
+        for i in 0..count {
+            self.cells[i] = 0;
+        }
+    }
+
+    // The `width` numbers at `to` become the larger of themselves and those at `from`, which lie behind them.
+    fn join(&mut self, to: usize, from: usize, width: usize)
+        requires { ⌜ to + width ≤ from ⌝ }
+        requires { ⌜ from + width ≤ length (now (now self .cells)) ⌝ }
+        ensures { λ _. ⌜ now (now (self .exit) .cells) ≡ paste (now (now (self .entry) .cells)) to (larger (run to width (now (now (self .entry) .cells))) (run from width (now (now (self .entry) .cells)))) width ⌝ }
+    {
+        for i in 0..width {
+            let mine = self.cells[to + i];
+            let theirs = self.cells[from + i];
+            self.cells[to + i] = mine.max(theirs);
+        }
+    }
+
+    // The `width` numbers at `to` become those at `from`, which lie before them.
+    fn copy(&mut self, to: usize, from: usize, width: usize)
+        requires { ⌜ from + width ≤ to ⌝ }
+        requires { ⌜ to + width ≤ length (now (now self .cells)) ⌝ }
+        ensures { λ _. ⌜ now (now (self .exit) .cells) ≡ paste (now (now (self .entry) .cells)) to (run from width (now (now (self .entry) .cells))) width ⌝ }
+    {
+        for i in 0..width {
+            self.cells[to + i] = self.cells[from + i];
+        }
+    }
+}
 
 fn needed(threads: u16, slots: u32) -> usize
     ensures { λ r. ⌜ r ≡ places threads slots ⌝ }

@@ -1,0 +1,4 @@
+// Operations, events, which of them conflict, and the rules that order them.
+pub mod conflict;
+pub mod event;
+pub mod rule;
