@@ -12,13 +12,13 @@ pub same-rows : {a b c d : List (List ℕ)} → a ≡ b → c ≡ d → _≡_ {A
 same-rows e f = cc
 
 pub steps-advance : (r : Rows) (t : ℕ) (take post : Option ℕ) → t < length (r .threads)
-  → posting (taking (growing r t) t take) t post ≡ advanced r t take post
+    → posting (taking (growing r t) t take) t post ≡ advanced r t take post
 steps-advance r t take post h =
-  let g : List ℕ = grown (getD (r .threads) t []) t in
-  let row : List ℕ = new-row r t take in
-  let once : List (List ℕ) = set (r .threads) t g in
-  let both : set once t (joined (r .slots) take (getD once t [])) ≡ set (r .threads) t row =
+    let g : List ℕ = grown (getD (r .threads) t []) t in
+    let row : List ℕ = new-row r t take in
+    let once : List (List ℕ) = set (r .threads) t g in
+    let both : set once t (joined (r .slots) take (getD once t [])) ≡ set (r .threads) t row =
     set-set (r .threads) t g _ ∙ ap (λ (x : List ℕ). set (r .threads) t (joined (r .slots) take x)) (getD-set-same (r .threads) t g [] h) in
-  same-rows both
+    same-rows both
     (ap (λ (x : List (List ℕ)). posted (r .slots) post (getD x t [])) both
-      ∙ ap (posted (r .slots) post) (getD-set-same (r .threads) t row [] h))
+    ∙ ap (posted (r .slots) post) (getD-set-same (r .threads) t row [] h))

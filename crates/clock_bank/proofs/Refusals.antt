@@ -41,4 +41,4 @@ pub record Step (k n own t : ℕ) (take post : Option ℕ) : Type 0 where
 
 pub step-right : (k n own t : ℕ) (take post : Option ℕ) → step-fault k n own t take post ≡ None → Step k n own t take post
 step-right k n own t take post none =
-  record { thread = grind (arith, tells); take-slot = grind (arith, tells); post-slot = grind (arith, tells); below = grind (arith, tells) }
+    record { thread = grind (arith, tells); take-slot = grind (arith, tells); post-slot = grind (arith, tells); below = grind (arith, tells) }

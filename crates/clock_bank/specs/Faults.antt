@@ -36,7 +36,7 @@ require b f next = cond b next (Some f)
 -- k threads and s slots over a table that has some places and needs so many
 abbrev pub count-fault : ℕ → ℕ → ℕ → ℕ → Option BankFault
 count-fault k s needed places =
-  require (leb 1 k && leb k 32) ThreadCount (require (leb s 1280) SlotCount (require (leb needed places) TableShort None))
+    require (leb 1 k && leb k 32) ThreadCount (require (leb s 1280) SlotCount (require (leb needed places) TableShort None))
 
 abbrev pub thread-entry-fault : Rows → ℕ → ℕ → Option BankFault
 thread-entry-fault r t u = require (ltb t (length (r .threads)) && ltb u (length (r .threads))) NoThread None
@@ -53,7 +53,7 @@ has-slot n (Some s) = ltb s n
 -- slots, and the own entry has to be below 65,535
 abbrev pub step-fault : ℕ → ℕ → ℕ → ℕ → Option ℕ → Option ℕ → Option BankFault
 step-fault k n own t take post =
-  require (ltb t k) NoThread (require (has-slot n take && has-slot n post) NoSlot (require (ltb own 65535) EntryLimit None))
+    require (ltb t k) NoThread (require (has-slot n take && has-slot n post) NoSlot (require (ltb own 65535) EntryLimit None))
 
 abbrev pub advance-fault : Rows → ℕ → Option ℕ → Option ℕ → Option BankFault
 advance-fault r t take post = step-fault (length (r .threads)) (length (r .slots)) (entry (r .threads) t t) t take post

@@ -51,5 +51,5 @@ new-row r t take = joined (r .slots) take (grown (getD (r .threads) t []) t)
 abbrev pub advanced : Rows → ℕ → Option ℕ → Option ℕ → Rows
 advanced r t take post = record {
   threads = set (r .threads) t (new-row r t take);
-  slots = posted (r .slots) post (new-row r t take)
+  slots = posted (r .slots) post (new-row r t take);
 }

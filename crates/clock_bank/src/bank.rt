@@ -29,7 +29,12 @@ pub trait Bank {
         ensures { λ r. ⌜ r ≡ or-fault (slot-entry-fault (rows (now (self .entry))) slot column) (entry (rows (now (self .entry)) .slots) slot column) ⌝ };
 
     // The thread's own entry grows by one; then it takes from a slot, then posts to one, where they are given.
-    fn advance(&mut self, thread: u16, take: Option<u32>, post: Option<u32>) -> Result<(), BankFault>
+    fn advance(
+        &mut self,
+        thread: u16,
+        take: Option<u32>,
+        post: Option<u32>,
+    ) -> Result<(), BankFault>
         ensures answer { λ r. ⌜ r ≡ or-fault (advance-fault (rows (now (self .entry))) thread take post) tt ⌝ }
         ensures after { λ _. ⌜ rows (now (self .exit)) ≡ unless (advance-fault (rows (now (self .entry))) thread take post) (advanced (rows (now (self .entry))) thread take post) (rows (now (self .entry))) ⌝ };
 }

@@ -3,7 +3,9 @@ ghost use mathlib.Core.Path.{_≡_};
 ghost use Rattle.clock_bank.specs.Faults.{number-of, or-fault, count-fault, has-slot, step-fault};
 
 pub const MOST_THREADS: u16 = 32;
+
 pub const MOST_SLOTS: u32 = 1280;
+
 pub const LARGEST_ENTRY: u32 = 65535;
 
 // A refusal leaves every row and the table as they were.
@@ -65,7 +67,14 @@ fn has_slot(slots: u32, slot: Option<u32>) -> bool
 }
 
 // Whether a bank with these counts can advance a thread whose own entry is `own`.
-pub fn check_advance(threads: u16, slots: u32, own: u32, thread: u16, take: Option<u32>, post: Option<u32>) -> Result<(), BankFault>
+pub fn check_advance(
+    threads: u16,
+    slots: u32,
+    own: u32,
+    thread: u16,
+    take: Option<u32>,
+    post: Option<u32>,
+) -> Result<(), BankFault>
     ensures { λ r. ⌜ r ≡ or-fault (step-fault threads slots own thread take post) tt ⌝ }
 {
     if thread >= threads {

@@ -33,23 +33,23 @@ decides a b = (sound, whole)
   where
     sound : conflicts a b ≡ true → Conflict a b
     sound holds =
-      let parts = and-parts _ _ holds in
-      let threads = and-parts _ _ (parts .0) in
-      let clash = and-parts _ _ (parts .1) in
-      let both = and-parts _ _ (clash .0) in
-      record {
-        variable = object-of (a .operation);
-        first = touches (a .operation) (both .0);
-        second = touches (b .operation) (both .1) ∙ ap Some (sym (eqb-true _ _ (threads .1)));
-        apart = eqb-false _ _ (not-true _ (threads .0));
-        written = clash .1
-      }
+        let parts = and-parts _ _ holds in
+        let threads = and-parts _ _ (parts .0) in
+        let clash = and-parts _ _ (parts .1) in
+        let both = and-parts _ _ (clash .0) in
+        record {
+          variable = object-of (a .operation);
+          first = touches (a .operation) (both .0);
+          second = touches (b .operation) (both .1) ∙ ap Some (sym (eqb-true _ _ (threads .1)));
+          apart = eqb-false _ _ (not-true _ (threads .0));
+          written = clash .1;
+        }
 
     whole : Conflict a b → conflicts a b ≡ true
     whole c =
-      let left = accesses (a .operation) (c .variable) (c .first) in
-      let right = accesses (b .operation) (c .variable) (c .second) in
-      and-from _ _
+        let left = accesses (a .operation) (c .variable) (c .first) in
+        let right = accesses (b .operation) (c .variable) (c .second) in
+        and-from _ _
         (and-from _ _ (not-from-false _ (ne-eqb _ _ (c .apart))) (eq-eqb _ _ (left .1 ∙ sym (right .1))))
         (and-from _ _ (and-from _ _ (left .0) (right .0)) (c .written))
 

@@ -46,5 +46,5 @@ pub record Conflict (a b : Event) : Type 0 where
 -- the test of a conflict
 abbrev pub conflicts : Event → Event → Bool
 conflicts a b =
-  (not (eqb (a .thread) (b .thread)) && eqb (object-of (a .operation)) (object-of (b .operation)))
-  && clashes (kind-of (a .operation)) (kind-of (b .operation))
+    (not (eqb (a .thread) (b .thread)) && eqb (object-of (a .operation)) (object-of (b .operation)))
+    && clashes (kind-of (a .operation)) (kind-of (b .operation))

@@ -3,7 +3,8 @@ ghost use mathlib.Core.Path.{_≡_};
 ghost use Rattle.std.specs.Orderings.{Decides};
 ghost use Rattle.events.specs.Events.{kind-of, object-of};
 ghost use Rattle.events.specs.Conflicts.{kind-table, clashes, Conflict, conflicts};
-use crate::event::{Event, Operation};
+use crate::event::Event;
+use crate::event::Operation;
 
 // The kind of an operation, without its variable or lock.
 #[derive(Clone, Copy)]
@@ -21,17 +22,25 @@ pub struct KindRow {
 }
 
 const CLASHES: [KindRow; 4] = [
-    KindRow { with: [false, true, false, false] },
-    KindRow { with: [true, true, false, false] },
-    KindRow { with: [false, false, false, false] },
-    KindRow { with: [false, false, false, false] },
+    KindRow {
+        with: [false, true, false, false],
+    },
+    KindRow {
+        with: [true, true, false, false],
+    },
+    KindRow {
+        with: [false, false, false, false],
+    },
+    KindRow {
+        with: [false, false, false, false],
+    },
 ];
 
-// The whole table, a row for each kind.
+// The whole table: two kinds can conflict where both are accesses and at least one writes.
 pub fn kind_table() -> [KindRow; 4]
     ensures { λ r. ⌜ r ≡ kind-table ⌝ }
 {
-    CLASHES
+    CLASHES // a row for each kind
 }
 
 impl Operation {

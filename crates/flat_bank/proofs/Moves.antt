@@ -25,62 +25,63 @@ use Rattle.flat_bank.proofs.Runs.{run-same, run-beside, getD-run, getD-beside,
 zero-rows : (n k m : ℕ) (rest : List ℕ) → n * k ≤ m → rows-in n k (replicate m 0 ++ rest) ≡ replicate n (replicate k 0)
 zero-rows zero k m rest fits = refl
 zero-rows (suc n) k m rest fits =
-  let k≤m : k ≤ m = omega (arith, suc-mul n k) in
-  let long : k ≤ length (replicate {A = ℕ} m 0) = omega (arith, length-replicate {A = ℕ} m 0) in
-  let first : take k (replicate m 0 ++ rest) ≡ replicate k 0 = take-append-le k (replicate m 0) rest long ∙ take-replicate k m 0 k≤m in
-  let others : drop k (replicate m 0 ++ rest) ≡ replicate (m - k) 0 ++ rest =
+    let k≤m : k ≤ m = omega (arith, suc-mul n k) in
+    let long : k ≤ length (replicate {A = ℕ} m 0) = omega (arith, length-replicate {A = ℕ} m 0) in
+    let first : take k (replicate m 0 ++ rest) ≡ replicate k 0 = take-append-le k (replicate m 0) rest long ∙ take-replicate k m 0 k≤m in
+    let others : drop k (replicate m 0 ++ rest) ≡ replicate (m - k) 0 ++ rest =
     drop-append-le k (replicate m 0) rest long ∙ ap (λ (z : List ℕ). z ++ rest) (drop-replicate k m 0) in
-  let below : rows-in n k (drop k (replicate m 0 ++ rest)) ≡ replicate n (replicate k 0) =
+    let below : rows-in n k (drop k (replicate m 0 ++ rest)) ≡ replicate n (replicate k 0) =
     ap (rows-in n k) others ∙ zero-rows n k (m - k) rest (omega (arith, suc-mul n k)) in
-  cc
+    cc
 
 pub fresh-rows : (k s : ℕ) (cells : List ℕ) → flat-rows k s (cleared (places k s) cells) ≡ fresh k s
 fresh-rows k s cells =
-  let all : rows-in (k + s) k (cleared (places k s) cells) ≡ replicate (k + s) (replicate k 0) =
+    let all : rows-in (k + s) k (cleared (places k s) cells) ≡ replicate (k + s) (replicate k 0) =
     zero-rows (k + s) k (places k s) (drop (places k s) cells) (omega arith) in
-  same-rows (ap (take k) all ∙ take-replicate k (k + s) (replicate k 0) (omega arith))
+    same-rows (ap (take k) all ∙ take-replicate k (k + s) (replicate k 0) (omega arith))
     (ap (drop k) all ∙ drop-replicate k (k + s) (replicate k 0) ∙ ap (λ (n : ℕ). replicate n (replicate k 0)) (omega arith))
 
 -- a write of row q
 put-row : (n k q : ℕ) (cells ys : List ℕ) → q < n → length ys ≡ k → n * k ≤ length cells
-  → rows-in n k (paste cells (q * k) ys k) ≡ set (rows-in n k cells) q ys
+    → rows-in n k (paste cells (q * k) ys k) ≡ set (rows-in n k cells) q ys
 put-row n k q cells ys h long fits =
-  let all = rows-in n k cells in
-  let within : q * k + k ≤ length cells = omega (arith, row-within q n k h) in
-  ext-getD [] _ _ (length-rows n k _ ∙ sym (length-set all q ys ∙ length-rows n k cells))
-  (λ r l. let below : r < n = omega (arith, length-rows n k (paste cells (q * k) ys k)) in
+    let all = rows-in n k cells in
+    let within : q * k + k ≤ length cells = omega (arith, row-within q n k h) in
+    ext-getD [] _ _ (length-rows n k _ ∙ sym (length-set all q ys ∙ length-rows n k cells))
+    (λ r l. let below : r < n = omega (arith, length-rows n k (paste cells (q * k) ys k)) in
     row-at n k r (paste cells (q * k) ys k) below
-    ∙ elim (cases-eq r q) as (λ _. run (r * k) k (paste cells (q * k) ys k) ≡ getD (set all q ys) r [])
-      [ inl e ↦ simp e (run-same cells (q * k) k ys long within ∙ sym (getD-set-same all q ys [] (omega (arith, length-rows n k cells))))
+    ∙ elim (cases-eq r q) as (λ _. run (r * k) k (paste cells (q * k) ys k) ≡ getD (set all q ys) r []) [
+      | inl e ↦ simp e (run-same cells (q * k) k ys long within ∙ sym (getD-set-same all q ys [] (omega (arith, length-rows n k cells))))
       | inr ne ↦ run-beside cells (q * k) k ys long within (r * k)
           (elim (cases-lt r q) [ inl lt ↦ inl (row-within r q k lt) | inr le ↦ inr (row-within q r k (omega arith)) ])
-        ∙ sym (row-at n k r cells below) ∙ sym (getD-set-other all q r ys [] ne) ])
+          ∙ sym (row-at n k r cells below) ∙ sym (getD-set-other all q r ys [] ne)
+    ])
 
 module _ (k s : ℕ) (cells : List ℕ) (fits : places k s ≤ length cells) where
   -- a write of a row leaves what lies behind the rows
   pub rest-stays : (q : ℕ) (ys : List ℕ) → q < k + s → length ys ≡ k → drop (places k s) (paste cells (q * k) ys k) ≡ drop (places k s) cells
   rest-stays q ys h long =
-    let within : q * k + k ≤ places k s = row-within q (k + s) k h in
-    same-lists _ _ (simp (length-drop, length-paste cells (q * k) ys k (omega arith) (omega arith)))
-    (λ j d l. getD-drop (places k s) (paste cells (q * k) ys k) j d
+      let within : q * k + k ≤ places k s = row-within q (k + s) k h in
+      same-lists _ _ (simp (length-drop, length-paste cells (q * k) ys k (omega arith) (omega arith)))
+      (λ j d l. getD-drop (places k s) (paste cells (q * k) ys k) j d
       ∙ getD-beside cells (q * k) k ys (places k s + j) d (omega arith) (omega arith) (inr (omega arith))
       ∙ sym (getD-drop (places k s) cells j d))
 
   pub fits-still : (q : ℕ) (ys now : List ℕ) → q < k + s → length ys ≡ k → now ≡ paste cells (q * k) ys k → places k s ≤ length now
   fits-still q ys now h long is =
-    omega (arith, ap length is, length-paste cells (q * k) ys k (omega (arith, row-within q (k + s) k h)) (omega arith))
+      omega (arith, ap length is, length-paste cells (q * k) ys k (omega (arith, row-within q (k + s) k h)) (omega arith))
 
   put-thread : (t : ℕ) (ys : List ℕ) → t < k → length ys ≡ k
-    → flat-rows k s (paste cells (t * k) ys k) ≡ record { threads = set (flat-rows k s cells .threads) t ys; slots = flat-rows k s cells .slots }
+      → flat-rows k s (paste cells (t * k) ys k) ≡ record { threads = set (flat-rows k s cells .threads) t ys; slots = flat-rows k s cells .slots }
   put-thread t ys h long =
-    let put = put-row (k + s) k t cells ys (omega arith) long fits in
-    same-rows (ap (take k) put ∙ take-set-lt k (rows-in (k + s) k cells) t ys h) (ap (drop k) put ∙ drop-set-lt k (rows-in (k + s) k cells) t ys h)
+      let put = put-row (k + s) k t cells ys (omega arith) long fits in
+      same-rows (ap (take k) put ∙ take-set-lt k (rows-in (k + s) k cells) t ys h) (ap (drop k) put ∙ drop-set-lt k (rows-in (k + s) k cells) t ys h)
 
   put-slot : (p : ℕ) (ys : List ℕ) → p < s → length ys ≡ k
-    → flat-rows k s (paste cells ((k + p) * k) ys k) ≡ record { threads = flat-rows k s cells .threads; slots = set (flat-rows k s cells .slots) p ys }
+      → flat-rows k s (paste cells ((k + p) * k) ys k) ≡ record { threads = flat-rows k s cells .threads; slots = set (flat-rows k s cells .slots) p ys }
   put-slot p ys h long =
-    let put = put-row (k + s) k (k + p) cells ys (omega arith) long fits in
-    same-rows (ap (take k) put ∙ take-set-le k (rows-in (k + s) k cells) (k + p) ys (omega arith)) (ap (drop k) put ∙ drop-set-add k (rows-in (k + s) k cells) p ys)
+      let put = put-row (k + s) k (k + p) cells ys (omega arith) long fits in
+      same-rows (ap (take k) put ∙ take-set-le k (rows-in (k + s) k cells) (k + p) ys (omega arith)) (ap (drop k) put ∙ drop-set-add k (rows-in (k + s) k cells) p ys)
 
   pub thread-long : (t : ℕ) → t < k → length (run (t * k) k cells) ≡ k
   thread-long t h = length-run (t * k) k cells (omega (arith, row-within t (k + s) k (omega arith)))
@@ -89,25 +90,25 @@ module _ (k s : ℕ) (cells : List ℕ) (fits : places k s ≤ length cells) whe
   taken-long t p h = length-larger (run (t * k) k cells) (run ((k + p) * k) k cells) ∙ thread-long t h
 
   pub take-rows : (t p : ℕ) → t < k → p < s
-    → flat-rows k s (paste cells (t * k) (larger (run (t * k) k cells) (run ((k + p) * k) k cells)) k) ≡ taking (flat-rows k s cells) t (Some p)
+      → flat-rows k s (paste cells (t * k) (larger (run (t * k) k cells) (run ((k + p) * k) k cells)) k) ≡ taking (flat-rows k s cells) t (Some p)
   take-rows t p ht hp =
-    put-thread t _ ht (taken-long t p ht)
-    ∙ ap (λ (row : List ℕ). record { threads = set (flat-rows k s cells .threads) t (larger row (run ((k + p) * k) k cells)); slots = flat-rows k s cells .slots }) (sym (thread-row k s cells t ht))
-    ∙ ap (λ (row : List ℕ). record { threads = set (flat-rows k s cells .threads) t (larger (getD (flat-rows k s cells .threads) t []) row); slots = flat-rows k s cells .slots }) (sym (slot-row k s cells p hp))
+      put-thread t _ ht (taken-long t p ht)
+      ∙ ap (λ (row : List ℕ). record { threads = set (flat-rows k s cells .threads) t (larger row (run ((k + p) * k) k cells)); slots = flat-rows k s cells .slots }) (sym (thread-row k s cells t ht))
+      ∙ ap (λ (row : List ℕ). record { threads = set (flat-rows k s cells .threads) t (larger (getD (flat-rows k s cells .threads) t []) row); slots = flat-rows k s cells .slots }) (sym (slot-row k s cells p hp))
 
   pub post-rows : (t p : ℕ) → t < k → p < s
-    → flat-rows k s (paste cells ((k + p) * k) (run (t * k) k cells) k) ≡ posting (flat-rows k s cells) t (Some p)
+      → flat-rows k s (paste cells ((k + p) * k) (run (t * k) k cells) k) ≡ posting (flat-rows k s cells) t (Some p)
   post-rows t p ht hp =
-    put-slot p _ hp (thread-long t ht)
-    ∙ ap (λ (row : List ℕ). record { threads = flat-rows k s cells .threads; slots = set (flat-rows k s cells .slots) p row }) (sym (thread-row k s cells t ht))
+      put-slot p _ hp (thread-long t ht)
+      ∙ ap (λ (row : List ℕ). record { threads = flat-rows k s cells .threads; slots = set (flat-rows k s cells .slots) p row }) (sym (thread-row k s cells t ht))
 
   pub grow-rows : (t : ℕ) → t < k
-    → flat-rows k s (set cells (t * k + t) (getD cells (t * k + t) 0 + 1)) ≡ growing (flat-rows k s cells) t
+      → flat-rows k s (set cells (t * k + t) (getD cells (t * k + t) 0 + 1)) ≡ growing (flat-rows k s cells) t
   grow-rows t h =
-    ap (flat-rows k s) (set-in-run cells (t * k) k t _ h (omega (arith, row-within t (k + s) k (omega arith)))
+      ap (flat-rows k s) (set-in-run cells (t * k) k t _ h (omega (arith, row-within t (k + s) k (omega arith)))
       ∙ ap (λ (v : ℕ). paste cells (t * k) (set (run (t * k) k cells) t (v + 1)) k) (sym (getD-run (t * k) k t 0 cells h)))
-    ∙ put-thread t _ h (length-set (run (t * k) k cells) t _ ∙ thread-long t h)
-    ∙ ap (λ (row : List ℕ). record { threads = set (flat-rows k s cells .threads) t (grown row t); slots = flat-rows k s cells .slots }) (sym (thread-row k s cells t h))
+      ∙ put-thread t _ h (length-set (run (t * k) k cells) t _ ∙ thread-long t h)
+      ∙ ap (λ (row : List ℕ). record { threads = set (flat-rows k s cells .threads) t (grown row t); slots = flat-rows k s cells .slots }) (sym (thread-row k s cells t h))
 
 pub no-take : (r : Rows) (t : ℕ) (slot : Option ℕ) → slot ≡ None → r ≡ taking r t slot
 no-take r t slot none = rw none (same-rows (sym (set-getD (r .threads) t [])) refl)

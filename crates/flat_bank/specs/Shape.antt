@@ -19,7 +19,7 @@ pub row-at : (n k q : ℕ) (cells : List ℕ) → q < n → getD (rows-in n k ce
 row-at zero k q cells h = absurd (omega arith)
 row-at (suc n) k zero cells h = rw zero-mul
 row-at (suc n) k (suc q) cells h =
-  row-at n k q (drop k cells) (omega arith) ∙ ap (take k) (drop-drop (q * k) k cells ∙ ap (λ (a : ℕ). drop a cells) (omega (arith, suc-mul q k)))
+    row-at n k q (drop k cells) (omega arith) ∙ ap (take k) (drop-drop (q * k) k cells ∙ ap (λ (a : ℕ). drop a cells) (omega (arith, suc-mul q k)))
 
 pub length-run : (at n : ℕ) (cells : List ℕ) → at + n ≤ length cells → length (run at n cells) ≡ n
 length-run at n cells h = simp (length-take, length-drop) (omega arith)
@@ -44,7 +44,7 @@ module _ (k s : ℕ) (cells : List ℕ) where
   pub flat-shaped : places k s ≤ length cells → Shaped (flat-rows k s cells)
   flat-shaped fits = record {
     thread-rows = λ t h. ap length (thread-row t (omega (arith, length-threads)))
-      ∙ length-run (t * k) k cells (omega (arith, row-within t (k + s) k (omega (arith, length-threads)))) ∙ sym length-threads;
+        ∙ length-run (t * k) k cells (omega (arith, row-within t (k + s) k (omega (arith, length-threads)))) ∙ sym length-threads;
     slot-rows = λ p h. ap length (slot-row p (omega (arith, length-slots)))
-      ∙ length-run ((k + p) * k) k cells (omega (arith, row-within (k + p) (k + s) k (omega (arith, length-slots)))) ∙ sym length-threads
+        ∙ length-run ((k + p) * k) k cells (omega (arith, row-within (k + p) (k + s) k (omega (arith, length-slots)))) ∙ sym length-threads;
   }

@@ -1,27 +1,28 @@
 // What an advance does to runs of the table, and the calls of the flat bank.
 ghost use mathlib.Core.Path.{_≡_};
-ghost use mathlib.Core.List.{_++_};
 ghost use Prim.Native.Nat.{ℕ, _+_, _*_, _<_, _≤_};
-ghost use lib.ListN.{length, getD, drop, replicate};
+ghost use lib.ListN.{length, getD};
 ghost use lib.Seq.{paste};
 ghost use Rattle.clock_bank.specs.Rows.{fresh, entry, larger, advanced};
 ghost use Rattle.clock_bank.specs.Steps.{growing, taking, posting};
-ghost use Rattle.clock_bank.specs.Faults.{or-fault, unless, has-slot, thread-entry-fault, slot-entry-fault, advance-fault};
+ghost use Rattle.clock_bank.specs.Faults.{or-fault, unless, has-slot, advance-fault};
 ghost use Rattle.flat_bank.specs.Flat.{run, places, flat-fault, cleared};
 ghost use Rattle.flat_bank.specs.Shape.{flat-shaped};
 ghost use Rattle.flat_bank.specs.View.{view, rest, Becomes};
 ghost use mathlib.Core.Bool.{true};
 ghost use denote.Ref.{now};
-use clock_bank::bank::Bank;
-use clock_bank::fault::{BankFault, check_advance, check_counts};
 use crate::flat::FlatBank;
 use crate::table::Table;
+use clock_bank::bank::Bank;
+use clock_bank::fault::BankFault;
+use clock_bank::fault::check_advance;
+use clock_bank::fault::check_counts;
 
 impl<'a> Table<'a> {
     // The first `count` numbers become 0.
     fn clear(&mut self, count: usize)
         requires { ⌜ count ≤ length (now (now self .cells)) ⌝ }
-        ensures { λ _. ⌜ now (now (self .exit) .cells) ≡ replicate count 0 ++ drop count (now (now (self .entry) .cells)) ⌝ }
+        ensures { λ _. ⌜ now (now (self .exit) .cells) ≡ cleared count (now (now (self .entry) .cells)) ⌝ }
     {
         for i in 0..count {
             self.cells[i] = 0;
@@ -73,11 +74,19 @@ impl<'a> FlatBank<'a> {
         ensures cells { λ r. ⌜ now (r .table .cells) ≡ unless (flat-fault threads slots (now (table .entry))) (cleared (places threads slots) (now (table .entry))) (now (table .entry)) ⌝ }
     {
         if FlatBank::check(threads, slots, table).is_err() {
-            return FlatBank { threads: 0, slots: 0, table: Table { cells: table } };
+            return FlatBank {
+                threads: 0,
+                slots: 0,
+                table: Table { cells: table },
+            };
         }
         let mut table = Table { cells: table };
         table.clear(needed(threads, slots));
-        FlatBank { threads, slots, table }
+        FlatBank {
+            threads,
+            slots,
+            table,
+        }
     }
 }
 
@@ -87,7 +96,8 @@ impl<'a> FlatBank<'a> {
         requires { ⌜ column < now self .threads ⌝ }
         ensures { λ r. ⌜ r ≡ getD (now (now (self .entry) .table .cells)) (row * now (self .entry) .threads + column) 0 ⌝ }
     {
-        self.table.cells[row * self.threads as usize + column as usize]
+        self.table
+            .cells[row * self.threads as usize + column as usize]
     }
 
     // The thread's own entry; 0 where there is no such thread.
@@ -117,7 +127,11 @@ impl<'a> FlatBank<'a> {
     {
         if let Some(number) = slot {
             let width = self.threads as usize;
-            self.table.join(thread as usize * width, (width + number as usize) * width, width);
+            self.table.join(
+                thread as usize * width,
+                (width + number as usize) * width,
+                width,
+            );
         }
     }
 
@@ -128,7 +142,11 @@ impl<'a> FlatBank<'a> {
     {
         if let Some(number) = slot {
             let width = self.threads as usize;
-            self.table.copy((width + number as usize) * width, thread as usize * width, width);
+            self.table.copy(
+                (width + number as usize) * width,
+                thread as usize * width,
+                width,
+            );
         }
     }
 }
@@ -139,11 +157,11 @@ pub impl<'a> Bank for FlatBank<'a> as FlatBankBank {
     ghost shaped = { λ b. flat-shaped (b .threads) (b .slots) (now (b .table .cells)) (b .fits) };
 
     fn thread_count(&self) -> u16 {
-        self.threads
+        self.threads // rows of threads come first
     }
 
     fn slot_count(&self) -> u32 {
-        self.slots
+        self.slots // rows of slots come next
     }
 
     fn thread_entry(&self, thread: u16, column: u16) -> Result<u32, BankFault> {
@@ -163,12 +181,24 @@ pub impl<'a> Bank for FlatBank<'a> as FlatBankBank {
         Ok(self.number(self.threads as usize + slot as usize, column))
     }
 
-    fn advance(&mut self, thread: u16, take: Option<u32>, post: Option<u32>) -> Result<(), BankFault>
+    fn advance(
+        &mut self,
+        thread: u16,
+        take: Option<u32>,
+        post: Option<u32>,
+    ) -> Result<(), BankFault>
         ensures answer { λ r. ⌜ r ≡ or-fault (advance-fault (view (now (self .entry))) thread take post) tt ⌝ }
         ensures after { λ _. ⌜ view (now (self .exit)) ≡ unless (advance-fault (view (now (self .entry))) thread take post) (advanced (view (now (self .entry))) thread take post) (view (now (self .entry))) ⌝ }
         ensures behind { λ _. ⌜ rest (now (self .exit)) ≡ rest (now (self .entry)) ⌝ }
     {
-        if let Err(fault) = check_advance(self.threads, self.slots, self.own(thread), thread, take, post) {
+        if let Err(fault) = check_advance(
+            self.threads,
+            self.slots,
+            self.own(thread),
+            thread,
+            take,
+            post,
+        ) {
             return Err(fault);
         }
         self.grow(thread);

@@ -3,5 +3,5 @@ mod calls;
 mod flat;
 mod table;
 
-pub use flat::FlatBank;
 pub use calls::FlatBankBank;
+pub use flat::FlatBank;

@@ -10,27 +10,27 @@ use Rattle.flat_bank.proofs.flat.FlatBank.grow.Needs as need
 
 pub index-self-place : need.index-self-place
 index-self-place c =
-  let self = c .args .self .now in
-  number-within (self .threads) (self .slots) (c .args .thread) (c .args .thread) _ (omega arith) (omega arith) (self .fits)
+    let self = c .args .self .now in
+    number-within (self .threads) (self .slots) (c .args .thread) (c .args .thread) _ (omega arith) (omega arith) (self .fits)
 
 pub add-self : need.add-self
 add-self c =
-  let self = c .args .self .now in
-  omega (arith, thread-entry (self .threads) (self .slots) (self .table .cells .now) (c .args .thread) (c .args .thread) (omega arith) (omega arith))
+    let self = c .args .self .now in
+    omega (arith, thread-entry (self .threads) (self .slots) (self .table .cells .now) (c .args .thread) (c .args .thread) (omega arith) (omega arith))
 
 pub index-self-place-2 : need.index-self-place-2
 index-self-place-2 c =
-  let self = c .args .self .now in
-  number-within (self .threads) (self .slots) (c .args .thread) (c .args .thread) _ (omega arith) (omega arith) (self .fits)
+    let self = c .args .self .now in
+    number-within (self .threads) (self .slots) (c .args .thread) (c .args .thread) _ (omega arith) (omega arith) (self .fits)
 
 pub returns : need.returns
 returns c =
-  let self = c .args .self .now in
-  let k = self .threads in
-  let t = c .args .thread in
-  record {
-    threads = refl;
-    slots = refl;
-    rows = grow-rows k (self .slots) (self .table .cells .now) (self .fits) t (omega arith);
-    behind = drop-set-lt (places k (self .slots)) (self .table .cells .now) _ _ (number-within k (self .slots) t t _ (omega arith) (omega arith) (omega arith))
-  }
+    let self = c .args .self .now in
+    let k = self .threads in
+    let t = c .args .thread in
+    record {
+      threads = refl;
+      slots = refl;
+      rows = grow-rows k (self .slots) (self .table .cells .now) (self .fits) t (omega arith);
+      behind = drop-set-lt (places k (self .slots)) (self .table .cells .now) _ _ (number-within k (self .slots) t t _ (omega arith) (omega arith) (omega arith));
+    }

@@ -8,5 +8,5 @@ offset-self-row c = omega (arith, mul-le (c .args .row) (c .args .self .now .thr
 
 pub index-self-row : need.index-self-row
 index-self-row c =
-  let self = c .args .self .now in
-  number-within (self .threads) (self .slots) (c .args .row) (c .args .column) _ (omega arith) (omega arith) (self .fits)
+    let self = c .args .self .now in
+    number-within (self .threads) (self .slots) (c .args .row) (c .args .column) _ (omega arith) (omega arith) (self .fits)

@@ -5,10 +5,10 @@ use Rattle.flat_bank.proofs.flat.FlatBank.own.Needs as need
 
 pub returns-then-thread-self : need.returns-then-thread-self
 returns-then-thread-self c =
-  let self = c .args .self .now in
-  c .number .ensures ∙ sym (thread-entry (self .threads) (self .slots) (self .table .cells .now) (c .args .thread) (c .args .thread) (omega arith) (omega arith))
+    let self = c .args .self .now in
+    c .number .ensures ∙ sym (thread-entry (self .threads) (self .slots) (self .table .cells .now) (c .args .thread) (c .args .thread) (omega arith) (omega arith))
 
 pub returns-else-thread-self : need.returns-else-thread-self
 returns-else-thread-self c =
-  let self = c .args .self .now in
-  sym (no-entry (self .threads) (self .slots) (self .table .cells .now) (c .args .thread) (c .args .thread) (omega arith))
+    let self = c .args .self .now in
+    sym (no-entry (self .threads) (self .slots) (self .table .cells .now) (c .args .thread) (c .args .thread) (omega arith))

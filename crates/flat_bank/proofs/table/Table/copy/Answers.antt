@@ -16,13 +16,13 @@ loop-i-holds c = search (needs, paste-none)
 
 pub loop-i-again : need.loop-i-again
 loop-i-again c =
-  let old = c .args .self .now .cells .now in
-  let i = c .loop-i .i in
-  let from = c .args .from in
-  let row = run from (c .args .width) old in
-  let long : length row ≡ c .args .width = length-run from (c .args .width) old (omega arith) in
-  paste-turn old _ row (c .args .to) i _ (c .loop-i .inv)
-    (ap (λ (cells : List ℕ). getD cells (from + i) 0) (c .loop-i .inv)
-      ∙ getD-beside old (c .args .to) i row (from + i) 0 (omega arith) (omega arith) (inl (omega arith))
-      ∙ sym (getD-run from (c .args .width) i 0 old (omega arith)))
-    (omega arith) (omega arith)
+    let old = c .args .self .now .cells .now in
+    let i = c .loop-i .i in
+    let from = c .args .from in
+    let row = run from (c .args .width) old in
+    let long : length row ≡ c .args .width = length-run from (c .args .width) old (omega arith) in
+    let read : getD (c .loop-i .self .cells .now) (from + i) 0 ≡ getD row i 0 =
+    ap (λ (cells : List ℕ). getD cells (from + i) 0) (c .loop-i .inv)
+    ∙ getD-beside old (c .args .to) i row (from + i) 0 (omega arith) (omega arith) (inl (omega arith))
+    ∙ sym (getD-run from (c .args .width) i 0 old (omega arith)) in
+    paste-turn old _ row (c .args .to) i _ (c .loop-i .inv) (omega (arith, read)) (omega arith) (omega arith)

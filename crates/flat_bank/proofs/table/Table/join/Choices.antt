@@ -6,6 +6,6 @@ use Rattle.flat_bank.proofs.table.Table.join.Given as given
 
 abbrev pub Inv-loop-i : given.InvT-loop-i
 Inv-loop-i l =
-  l .self .cells .now
-  ≡ paste (l .entry .self .cells .now) (l .to)
-      (larger (run (l .to) (l .width) (l .entry .self .cells .now)) (run (l .from) (l .width) (l .entry .self .cells .now))) (l .i)
+    l .self .cells .now
+    ≡ paste (l .entry .self .cells .now) (l .to)
+    (larger (run (l .to) (l .width) (l .entry .self .cells .now)) (run (l .from) (l .width) (l .entry .self .cells .now))) (l .i)
