@@ -57,19 +57,28 @@ put-row n k q cells ys h long fits =
           ∙ sym (row-at n k r cells below) ∙ sym (getD-set-other all q r ys [] ne)
     ])
 
-module _ (k s : ℕ) (cells : List ℕ) (fits : places k s ≤ length cells) where
-  -- a write of a row leaves what lies behind the rows
-  pub rest-stays : (q : ℕ) (ys : List ℕ) → q < k + s → length ys ≡ k → drop (places k s) (paste cells (q * k) ys k) ≡ drop (places k s) cells
-  rest-stays q ys h long =
-      let within : q * k + k ≤ places k s = row-within q (k + s) k h in
-      same-lists _ _ (simp (length-drop, length-paste cells (q * k) ys k (omega arith) (omega arith)))
-      (λ j d l. getD-drop (places k s) (paste cells (q * k) ys k) j d
-      ∙ getD-beside cells (q * k) k ys (places k s + j) d (omega arith) (omega arith) (inr (omega arith))
-      ∙ sym (getD-drop (places k s) cells j d))
+-- what a step makes of a table: it has the rows r now, and what lies behind them is as it was
+pub record Left (k s : ℕ) (cells now : List ℕ) (r : Rows) : Type 0 where
+  pub fits : places k s ≤ length now
+  pub rows : flat-rows k s now ≡ r
+  pub rest : drop (places k s) now ≡ drop (places k s) cells
 
-  pub fits-still : (q : ℕ) (ys now : List ℕ) → q < k + s → length ys ≡ k → now ≡ paste cells (q * k) ys k → places k s ≤ length now
-  fits-still q ys now h long is =
-      omega (arith, ap length is, length-paste cells (q * k) ys k (omega (arith, row-within q (k + s) k h)) (omega arith))
+module _ (k s : ℕ) (cells : List ℕ) (fits : places k s ≤ length cells) where
+  -- a write of row q
+  put-left : (q : ℕ) (ys now : List ℕ) (r : Rows) → q < k + s → length ys ≡ k → now ≡ paste cells (q * k) ys k
+      → flat-rows k s (paste cells (q * k) ys k) ≡ r → Left k s cells now r
+  put-left q ys now r h long is rows =
+      let within : q * k + k ≤ places k s = row-within q (k + s) k h in
+      let same : length (paste cells (q * k) ys k) ≡ length cells = length-paste cells (q * k) ys k (omega arith) (omega arith) in
+      record {
+        fits = omega (arith, ap length is, same);
+        rows = ap (flat-rows k s) is ∙ rows;
+        rest = ap (drop (places k s)) is
+            ∙ same-lists _ _ (simp (length-drop, same))
+            (λ j d l. getD-drop (places k s) (paste cells (q * k) ys k) j d
+            ∙ getD-beside cells (q * k) k ys (places k s + j) d (omega arith) (omega arith) (inr (omega arith))
+            ∙ sym (getD-drop (places k s) cells j d));
+      }
 
   put-thread : (t : ℕ) (ys : List ℕ) → t < k → length ys ≡ k
       → flat-rows k s (paste cells (t * k) ys k) ≡ record { threads = set (flat-rows k s cells .threads) t ys; slots = flat-rows k s cells .slots }
@@ -83,32 +92,33 @@ module _ (k s : ℕ) (cells : List ℕ) (fits : places k s ≤ length cells) whe
       let put = put-row (k + s) k (k + p) cells ys (omega arith) long fits in
       same-rows (ap (take k) put ∙ take-set-le k (rows-in (k + s) k cells) (k + p) ys (omega arith)) (ap (drop k) put ∙ drop-set-add k (rows-in (k + s) k cells) p ys)
 
-  pub thread-long : (t : ℕ) → t < k → length (run (t * k) k cells) ≡ k
+  thread-long : (t : ℕ) → t < k → length (run (t * k) k cells) ≡ k
   thread-long t h = length-run (t * k) k cells (omega (arith, row-within t (k + s) k (omega arith)))
 
-  pub taken-long : (t p : ℕ) → t < k → length (larger (run (t * k) k cells) (run ((k + p) * k) k cells)) ≡ k
-  taken-long t p h = length-larger (run (t * k) k cells) (run ((k + p) * k) k cells) ∙ thread-long t h
-
-  pub take-rows : (t p : ℕ) → t < k → p < s
-      → flat-rows k s (paste cells (t * k) (larger (run (t * k) k cells) (run ((k + p) * k) k cells)) k) ≡ taking (flat-rows k s cells) t (Some p)
-  take-rows t p ht hp =
-      put-thread t _ ht (taken-long t p ht)
-      ∙ ap (λ (row : List ℕ). record { threads = set (flat-rows k s cells .threads) t (larger row (run ((k + p) * k) k cells)); slots = flat-rows k s cells .slots }) (sym (thread-row k s cells t ht))
-      ∙ ap (λ (row : List ℕ). record { threads = set (flat-rows k s cells .threads) t (larger (getD (flat-rows k s cells .threads) t []) row); slots = flat-rows k s cells .slots }) (sym (slot-row k s cells p hp))
-
-  pub post-rows : (t p : ℕ) → t < k → p < s
-      → flat-rows k s (paste cells ((k + p) * k) (run (t * k) k cells) k) ≡ posting (flat-rows k s cells) t (Some p)
-  post-rows t p ht hp =
-      put-slot p _ hp (thread-long t ht)
-      ∙ ap (λ (row : List ℕ). record { threads = flat-rows k s cells .threads; slots = set (flat-rows k s cells .slots) p row }) (sym (thread-row k s cells t ht))
-
-  pub grow-rows : (t : ℕ) → t < k
-      → flat-rows k s (set cells (t * k + t) (getD cells (t * k + t) 0 + 1)) ≡ growing (flat-rows k s cells) t
-  grow-rows t h =
-      ap (flat-rows k s) (set-in-run cells (t * k) k t _ h (omega (arith, row-within t (k + s) k (omega arith)))
+  pub grow-left : (t : ℕ) → t < k → Left k s cells (set cells (t * k + t) (getD cells (t * k + t) 0 + 1)) (growing (flat-rows k s cells) t)
+  grow-left t h =
+      let long : length (grown (run (t * k) k cells) t) ≡ k = length-set (run (t * k) k cells) t _ ∙ thread-long t h in
+      put-left t (grown (run (t * k) k cells) t) _ _ (omega arith) long
+      (set-in-run cells (t * k) k t _ h (omega (arith, row-within t (k + s) k (omega arith)))
       ∙ ap (λ (v : ℕ). paste cells (t * k) (set (run (t * k) k cells) t (v + 1)) k) (sym (getD-run (t * k) k t 0 cells h)))
-      ∙ put-thread t _ h (length-set (run (t * k) k cells) t _ ∙ thread-long t h)
-      ∙ ap (λ (row : List ℕ). record { threads = set (flat-rows k s cells .threads) t (grown row t); slots = flat-rows k s cells .slots }) (sym (thread-row k s cells t h))
+      (put-thread t _ h long
+      ∙ ap (λ (row : List ℕ). record { threads = set (flat-rows k s cells .threads) t (grown row t); slots = flat-rows k s cells .slots }) (sym (thread-row k s cells t h)))
+
+  pub take-left : (t p : ℕ) (now : List ℕ) → t < k → p < s → now ≡ paste cells (t * k) (larger (run (t * k) k cells) (run ((k + p) * k) k cells)) k
+      → Left k s cells now (taking (flat-rows k s cells) t (Some p))
+  take-left t p now ht hp is =
+      let long : length (larger (run (t * k) k cells) (run ((k + p) * k) k cells)) ≡ k = length-larger (run (t * k) k cells) _ ∙ thread-long t ht in
+      put-left t _ now _ (omega arith) long is
+      (put-thread t _ ht long
+      ∙ ap (λ (row : List ℕ). record { threads = set (flat-rows k s cells .threads) t (larger row (run ((k + p) * k) k cells)); slots = flat-rows k s cells .slots }) (sym (thread-row k s cells t ht))
+      ∙ ap (λ (row : List ℕ). record { threads = set (flat-rows k s cells .threads) t (larger (getD (flat-rows k s cells .threads) t []) row); slots = flat-rows k s cells .slots }) (sym (slot-row k s cells p hp)))
+
+  pub post-left : (t p : ℕ) (now : List ℕ) → t < k → p < s → now ≡ paste cells ((k + p) * k) (run (t * k) k cells) k
+      → Left k s cells now (posting (flat-rows k s cells) t (Some p))
+  post-left t p now ht hp is =
+      put-left (k + p) _ now _ (omega arith) (thread-long t ht) is
+      (put-slot p _ hp (thread-long t ht)
+      ∙ ap (λ (row : List ℕ). record { threads = flat-rows k s cells .threads; slots = set (flat-rows k s cells .slots) p row }) (sym (thread-row k s cells t ht)))
 
 pub no-take : (r : Rows) (t : ℕ) (slot : Option ℕ) → slot ≡ None → r ≡ taking r t slot
 no-take r t slot none = rw none (same-rows (sym (set-getD (r .threads) t [])) refl)

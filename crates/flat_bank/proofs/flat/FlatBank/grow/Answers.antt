@@ -1,11 +1,7 @@
 use mathlib.Core.Path.{refl}
 use native.Mathlib.Omega.{arith}
-use lib.ListN.{drop}
-use Rattle.std.proofs.shelf.Lists.{drop-set-lt}
-use Rattle.flat_bank.specs.Flat.{places}
-use Rattle.flat_bank.specs.Shape.{row-within}
 use Rattle.flat_bank.proofs.Entries.{number-within, thread-entry}
-use Rattle.flat_bank.proofs.Moves.{grow-rows}
+use Rattle.flat_bank.proofs.Moves.{grow-left}
 use Rattle.flat_bank.proofs.flat.FlatBank.grow.Needs as need
 
 pub index-self-place : need.index-self-place
@@ -26,11 +22,5 @@ index-self-place-2 c =
 pub returns : need.returns
 returns c =
     let self = c .args .self .now in
-    let k = self .threads in
-    let t = c .args .thread in
-    record {
-      threads = refl;
-      slots = refl;
-      rows = grow-rows k (self .slots) (self .table .cells .now) (self .fits) t (omega arith);
-      behind = drop-set-lt (places k (self .slots)) (self .table .cells .now) _ _ (number-within k (self .slots) t t _ (omega arith) (omega arith) (omega arith));
-    }
+    let left = grow-left (self .threads) (self .slots) (self .table .cells .now) (self .fits) (c .args .thread) (omega arith) in
+    record { threads = refl; slots = refl; rows = left .rows; behind = left .rest }
