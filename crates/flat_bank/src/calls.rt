@@ -3,6 +3,7 @@ ghost use mathlib.Core.Path.{_≡_};
 ghost use Prim.Native.Nat.{ℕ, _+_, _*_, _<_, _≤_};
 ghost use lib.ListN.{length, getD};
 ghost use lib.Seq.{paste};
+ghost use Rattle.std.specs.declared.option.Option.the-variants.{None};
 ghost use Rattle.clock_bank.specs.Rows.{fresh, entry, larger, advanced};
 ghost use Rattle.clock_bank.specs.Steps.{growing, taking, posting};
 ghost use Rattle.clock_bank.specs.Faults.{or-fault, unless, has-slot, advance-fault};
@@ -149,6 +150,32 @@ impl<'a> FlatBank<'a> {
             );
         }
     }
+
+    // Why an advance is refused, or none.
+    fn refusal(&self, thread: u16, take: Option<u32>, post: Option<u32>) -> Option<BankFault>
+        ensures { λ r. ⌜ r ≡ advance-fault (view (now (self .entry))) thread take post ⌝ }
+    {
+        match check_advance(
+            self.threads,
+            self.slots,
+            self.own(thread),
+            thread,
+            take,
+            post,
+        ) {
+            Ok(()) => None,
+            Err(fault) => Some(fault),
+        }
+    }
+
+    fn step(&mut self, thread: u16, take: Option<u32>, post: Option<u32>)
+        requires { ⌜ advance-fault (view (now self)) thread take post ≡ None ⌝ }
+        ensures { λ _. ⌜ Becomes (now (self .entry)) (now (self .exit)) (advanced (view (now (self .entry))) thread take post) ⌝ }
+    {
+        self.grow(thread);
+        self.take(thread, take);
+        self.post(thread, post);
+    }
 }
 
 pub impl<'a> Bank for FlatBank<'a> as FlatBankBank {
@@ -191,19 +218,12 @@ pub impl<'a> Bank for FlatBank<'a> as FlatBankBank {
         ensures after { λ _. ⌜ view (now (self .exit)) ≡ unless (advance-fault (view (now (self .entry))) thread take post) (advanced (view (now (self .entry))) thread take post) (view (now (self .entry))) ⌝ }
         ensures behind { λ _. ⌜ rest (now (self .exit)) ≡ rest (now (self .entry)) ⌝ }
     {
-        if let Err(fault) = check_advance(
-            self.threads,
-            self.slots,
-            self.own(thread),
-            thread,
-            take,
-            post,
-        ) {
-            return Err(fault);
+        match self.refusal(thread, take, post) {
+            Some(fault) => Err(fault),
+            None => {
+                self.step(thread, take, post);
+                Ok(())
+            }
         }
-        self.grow(thread);
-        self.take(thread, take);
-        self.post(thread, post);
-        Ok(())
     }
 }
