@@ -1,18 +1,16 @@
 -- The test of a conflict decides whether two events conflict. Assumes nothing.
 use mathlib.Core.Path.{_≡_, refl, sym, ap, _∙_}
-use mathlib.Core.Bool.{Bool, true, false, _&&_, not}
+use mathlib.Core.Bool.{Bool, true}
 use Prim.Native.Nat.{ℕ}
 use native.Mathlib.Omega.{arith}
-use lib.Dec.{eqb}
 use Rattle.std.specs.Orderings.{Decides}
-use Rattle.std.specs.declared.option.Option.{Option}
-use Rattle.std.specs.declared.option.Option.the-variants.{Some, None}
+use Rattle.std.specs.declared.option.Option.the-variants.{Some}
 use Rattle.std.proofs.shelf.Tests.{and-parts, and-from, not-true, not-from-false, eqb-true, eqb-false, eq-eqb, ne-eqb}
 use Rattle.events.specs.declared.event.Operation.{Operation}
 use Rattle.events.specs.declared.event.Operation.the-variants.{Read, Write, Acquire, Release}
 use Rattle.events.specs.declared.event.Event.{Event}
 use Rattle.events.specs.Events.{kind-of, object-of, variable-of}
-use Rattle.events.specs.Conflicts.{is-access, is-write, clashes, Conflict, conflicts}
+use Rattle.events.specs.Conflicts.{is-access, Conflict, conflicts}
 
 -- an access touches its object
 touches : (o : Operation) → is-access (kind-of o) ≡ true → variable-of o ≡ Some (object-of o)

@@ -5,7 +5,6 @@ use mathlib.Core.List.{List, [], _∷_, map}
 use Prim.Native.Nat.{ℕ}
 use lib.Dec.{eqb}
 use Rattle.std.specs.declared.option.Option.the-variants.{Some}
-use Rattle.events.specs.declared.event.Operation.{Operation}
 use Rattle.events.specs.declared.event.Event.{Event}
 use Rattle.events.specs.declared.conflict.Kind.{Kind}
 use Rattle.events.specs.declared.conflict.Kind.the-variants.{Read, Write, Acquire, Release}

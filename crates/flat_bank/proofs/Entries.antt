@@ -1,12 +1,12 @@
 -- The entries of the rows in a table. Assumes nothing.
-use mathlib.Core.Path.{_≡_, refl, sym, ap, _∙_}
+use mathlib.Core.Path.{_≡_, ap, _∙_}
 use mathlib.Core.List.{List, []}
 use Prim.Native.Nat.{ℕ, _+_, _*_, _<_, _≤_}
 use native.Mathlib.Omega.{arith}
-use lib.ListN.{length, getD}
+use lib.ListN.{getD}
 use Rattle.std.proofs.shelf.Lists.{getD-past}
 use Rattle.clock_bank.specs.Rows.{entry}
-use Rattle.flat_bank.specs.Flat.{flat-rows, places, run}
+use Rattle.flat_bank.specs.Flat.{flat-rows, places}
 use Rattle.flat_bank.specs.Shape.{thread-row, slot-row, length-threads, row-within}
 use Rattle.flat_bank.proofs.Runs.{getD-run}
 

@@ -1,8 +1,8 @@
 -- What a write of a row, and an advance, make of the rows in a table. Assumes nothing.
-use mathlib.Core.Path.{_≡_, refl, sym, ap, subst, _∙_}
-use mathlib.Core.Logic.{_≢_, _⊎_, inl, inr}
+use mathlib.Core.Path.{_≡_, refl, sym, ap, _∙_}
+use mathlib.Core.Logic.{inl, inr}
 use mathlib.Core.Bool.{true}
-use mathlib.Core.List.{List, [], _∷_, _++_}
+use mathlib.Core.List.{List, [], _++_}
 use Prim.Native.Nat.{ℕ, zero, suc, _+_, _-_, _*_, _<_, _≤_}
 use native.Mathlib.Omega.{arith}
 use native.Mathlib.Nat.{suc-mul}
@@ -10,10 +10,10 @@ use lib.ListN.{length, getD, set, take, drop, replicate}
 use lib.Seq.{paste, take-set-lt}
 use Rattle.std.specs.declared.option.Option.{Option}
 use Rattle.std.specs.declared.option.Option.the-variants.{Some, None}
-use Rattle.std.proofs.shelf.Lists.{ext-getD, same-lists, length-append, length-drop, length-set, length-replicate, getD-set-same, getD-set-other, getD-take, getD-drop, drop-set-lt, drop-set-add, take-set-le, take-append-le, drop-append-le, take-replicate, drop-replicate, set-getD}
+use Rattle.std.proofs.shelf.Lists.{ext-getD, same-lists, length-append, length-drop, length-set, length-replicate, getD-set-same, getD-set-other, getD-drop, drop-set-lt, drop-set-add, take-set-le, take-append-le, drop-append-le, take-replicate, drop-replicate, set-getD}
 use Rattle.std.proofs.shelf.Edits.{length-paste}
 use Rattle.std.proofs.shelf.Tests.{cases-eq, cases-lt, ltb-true}
-use Rattle.clock_bank.specs.Rows.{Rows, fresh, grown, larger, joined, posted, new-row, advanced}
+use Rattle.clock_bank.specs.Rows.{Rows, fresh, grown, larger}
 use Rattle.clock_bank.specs.Faults.{has-slot}
 use Rattle.clock_bank.specs.Steps.{growing, taking, posting}
 use Rattle.flat_bank.specs.Flat.{run, rows-in, flat-rows, places, cleared}

@@ -1,16 +1,14 @@
 -- Rows in a list of numbers, and what a write to one of them leaves. Assumes nothing.
 use mathlib.Core.Path.{_≡_, refl, sym, ap, subst, _∙_}
-use mathlib.Core.Logic.{_≢_, _⊎_, inl, inr}
-use mathlib.Core.List.{List, [], _∷_, _++_}
-use Prim.Native.Nat.{ℕ, zero, suc, _+_, _-_, _*_, _<_, _≤_, max}
+use mathlib.Core.Logic.{_⊎_, inl, inr}
+use mathlib.Core.List.{List, [], _∷_}
+use Prim.Native.Nat.{ℕ, zero, suc, _+_, _-_, _<_, _≤_, max}
 use native.Mathlib.Omega.{arith}
-use native.Mathlib.Nat.{add-mul, one-mul, zero-mul, suc-mul}
 use borrow.Author.Needs.{needs}
-use lib.ListN.{length, getD, set, take, drop, replicate}
+use lib.ListN.{length, getD, set, drop}
 use lib.Seq.{paste}
-use Rattle.std.proofs.shelf.Lists.{places, same-lists, ext-getD, drop-drop, getD-take, getD-drop, length-take, length-drop, length-append, getD-append-left, getD-append-right, append-assoc, take-at, drop-at, length-set, getD-set-same, getD-set-other, take-all}
+use Rattle.std.proofs.shelf.Lists.{places, same-lists, getD-take, getD-drop, length-take, length-drop, length-set, getD-set-same, getD-set-other}
 use Rattle.std.proofs.shelf.Edits.{length-paste, paste-more}
-use Rattle.std.proofs.shelf.Bits.{mul-le}
 use Rattle.std.proofs.shelf.Tests.{cases-eq, cases-lt}
 use Rattle.clock_bank.specs.Rows.{larger}
 use Rattle.flat_bank.specs.Flat.{run}

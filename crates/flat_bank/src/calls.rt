@@ -1,6 +1,6 @@
 // What an advance does to runs of the table, and the calls of the flat bank.
 ghost use mathlib.Core.Path.{_≡_};
-ghost use Prim.Native.Nat.{ℕ, _+_, _*_, _<_, _≤_};
+ghost use Prim.Native.Nat.{_+_, _*_, _<_, _≤_};
 ghost use lib.ListN.{length, getD};
 ghost use lib.Seq.{paste};
 ghost use Rattle.std.specs.declared.option.Option.the-variants.{None};

@@ -1,10 +1,9 @@
 // A keep-list: a list of records over a table that its user lends. It appends while the table lasts,
 // and counts all that it is given, also what found no place.
 ghost use mathlib.Core.Path.{_≡_};
-ghost use Prim.Native.Nat.{ℕ};
 ghost use lib.ListN.{length};
 ghost use Rattle.std.specs.Finite.{nth};
-ghost use Rattle.keep_list.specs.Kept.{Kept, empty, added, records, kept};
+ghost use Rattle.keep_list.specs.Kept.{empty, added, records, kept};
 
 #[derive(Drop)]
 pub struct KeepList<'a, T> {

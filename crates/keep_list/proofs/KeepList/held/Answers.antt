@@ -1,5 +1,4 @@
-use mathlib.Core.Path.{refl, sym, _∙_}
-use lib.ListN.{length}
+use mathlib.Core.Path.{refl}
 use native.Mathlib.Omega.{arith}
 use Rattle.std.proofs.shelf.Lists.{length-take}
 use Rattle.keep_list.proofs.KeepList.held.Needs as need

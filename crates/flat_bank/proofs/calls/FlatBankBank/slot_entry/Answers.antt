@@ -1,8 +1,5 @@
-use mathlib.Core.Path.{_≡_}
 use native.Mathlib.Omega.{arith}
-use lib.ListN.{length}
 use Rattle.std.proofs.shelf.Ways.{tells}
-use Rattle.flat_bank.specs.View.{view}
 use Rattle.flat_bank.specs.Shape.{length-threads, length-slots}
 use Rattle.flat_bank.proofs.Entries.{slot-entry}
 use Rattle.flat_bank.proofs.calls.FlatBankBank.slot_entry.Needs as need
