@@ -4,6 +4,7 @@ use events::event::Operation;
 use std::alloc::AllocError;
 use std::alloc::Global;
 use std::error::AnyError;
+use std::str::SplitWhitespace;
 
 #[derive(Drop)]
 pub struct Run {
@@ -71,16 +72,21 @@ fn parse_event(line: &str) -> Result<Event, AnyError> {
     Ok(Event { thread, operation })
 }
 
+// A number behind its label, as `threads 2`.
+fn labelled(words: &mut SplitWhitespace<'_>, label: &str) -> Result<u16, AnyError> {
+    if word(words.next())? != label {
+        return Err("a count has another label".into());
+    }
+    Ok(word(words.next())?.parse::<u16>()?)
+}
+
 // `NAME threads K locks L variables X`
 fn parse_run(rest: &str) -> Result<Line, AnyError> {
     let mut words = rest.split_whitespace();
     let name = word(words.next())?;
-    let _ = words.next();
-    let threads = word(words.next())?.parse::<u16>()?;
-    let _ = words.next();
-    let locks = word(words.next())?.parse::<u16>()?;
-    let _ = words.next();
-    let variables = word(words.next())?.parse::<u16>()?;
+    let threads = labelled(&mut words, "threads")?;
+    let locks = labelled(&mut words, "locks")?;
+    let variables = labelled(&mut words, "variables")?;
     Ok(Line::Run(name, threads, locks, variables))
 }
 
