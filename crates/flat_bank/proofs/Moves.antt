@@ -57,6 +57,9 @@ put-row n k q cells ys h long fits =
           ∙ sym (row-at n k r cells below) ∙ sym (getD-set-other all q r ys [] ne)
     ])
 
+slot-there : (s p : ℕ) (slot : Option ℕ) → slot ≡ Some p → has-slot s slot ≡ true → p < s
+slot-there s p slot is has = ltb-true p s (sym (ap (has-slot s) is) ∙ has)
+
 -- what a step makes of a table: it has the rows r now, and what lies behind them is as it was
 pub record Left (k s : ℕ) (cells now : List ℕ) (r : Rows) : Type 0 where
   pub fits : places k s ≤ length now
@@ -79,6 +82,13 @@ module _ (k s : ℕ) (cells : List ℕ) (fits : places k s ≤ length cells) whe
             ∙ getD-beside cells (q * k) k ys (places k s + j) d (omega arith) (omega arith) (inr (omega arith))
             ∙ sym (getD-drop (places k s) cells j d));
       }
+
+  -- the row of a slot lies behind that of a thread, and in the table
+  pub slot-behind : (t p : ℕ) (slot : Option ℕ) → t < k → slot ≡ Some p → has-slot s slot ≡ true
+      → (t * k + k ≤ (k + p) * k) × ((k + p) * k + k ≤ length cells)
+  slot-behind t p slot ht is has =
+      let there : p < s = slot-there s p slot is has in
+      (row-within t (k + p) k (omega arith), omega (arith, row-within (k + p) (k + s) k (omega arith)))
 
   put-thread : (t : ℕ) (ys : List ℕ) → t < k → length ys ≡ k
       → flat-rows k s (paste cells (t * k) ys k) ≡ record { threads = set (flat-rows k s cells .threads) t ys; slots = flat-rows k s cells .slots }
@@ -104,27 +114,28 @@ module _ (k s : ℕ) (cells : List ℕ) (fits : places k s ≤ length cells) whe
       (put-thread t _ h long
       ∙ ap (λ (row : List ℕ). record { threads = set (flat-rows k s cells .threads) t (grown row t); slots = flat-rows k s cells .slots }) (sym (thread-row k s cells t h)))
 
-  pub take-left : (t p : ℕ) (now : List ℕ) → t < k → p < s → now ≡ paste cells (t * k) (larger (run (t * k) k cells) (run ((k + p) * k) k cells)) k
-      → Left k s cells now (taking (flat-rows k s cells) t (Some p))
-  take-left t p now ht hp is =
+  pub take-left : (t p : ℕ) (slot : Option ℕ) (now : List ℕ) → t < k → slot ≡ Some p → has-slot s slot ≡ true → now ≡ paste cells (t * k) (larger (run (t * k) k cells) (run ((k + p) * k) k cells)) k
+      → Left k s cells now (taking (flat-rows k s cells) t slot)
+  take-left t p slot now ht some has is =
+      let hp : p < s = slot-there s p slot some has in
       let long : length (larger (run (t * k) k cells) (run ((k + p) * k) k cells)) ≡ k = length-larger (run (t * k) k cells) _ ∙ thread-long t ht in
       put-left t _ now _ (omega arith) long is
       (put-thread t _ ht long
       ∙ ap (λ (row : List ℕ). record { threads = set (flat-rows k s cells .threads) t (larger row (run ((k + p) * k) k cells)); slots = flat-rows k s cells .slots }) (sym (thread-row k s cells t ht))
-      ∙ ap (λ (row : List ℕ). record { threads = set (flat-rows k s cells .threads) t (larger (getD (flat-rows k s cells .threads) t []) row); slots = flat-rows k s cells .slots }) (sym (slot-row k s cells p hp)))
+      ∙ ap (λ (row : List ℕ). record { threads = set (flat-rows k s cells .threads) t (larger (getD (flat-rows k s cells .threads) t []) row); slots = flat-rows k s cells .slots }) (sym (slot-row k s cells p hp))
+      ∙ ap (taking (flat-rows k s cells) t) (sym some))
 
-  pub post-left : (t p : ℕ) (now : List ℕ) → t < k → p < s → now ≡ paste cells ((k + p) * k) (run (t * k) k cells) k
-      → Left k s cells now (posting (flat-rows k s cells) t (Some p))
-  post-left t p now ht hp is =
+  pub post-left : (t p : ℕ) (slot : Option ℕ) (now : List ℕ) → t < k → slot ≡ Some p → has-slot s slot ≡ true → now ≡ paste cells ((k + p) * k) (run (t * k) k cells) k
+      → Left k s cells now (posting (flat-rows k s cells) t slot)
+  post-left t p slot now ht some has is =
+      let hp : p < s = slot-there s p slot some has in
       put-left (k + p) _ now _ (omega arith) (thread-long t ht) is
       (put-slot p _ hp (thread-long t ht)
-      ∙ ap (λ (row : List ℕ). record { threads = flat-rows k s cells .threads; slots = set (flat-rows k s cells .slots) p row }) (sym (thread-row k s cells t ht)))
+      ∙ ap (λ (row : List ℕ). record { threads = flat-rows k s cells .threads; slots = set (flat-rows k s cells .slots) p row }) (sym (thread-row k s cells t ht))
+      ∙ ap (posting (flat-rows k s cells) t) (sym some))
 
 pub no-take : (r : Rows) (t : ℕ) (slot : Option ℕ) → slot ≡ None → r ≡ taking r t slot
 no-take r t slot none = rw none (same-rows (sym (set-getD (r .threads) t [])) refl)
-
-pub slot-there : (s p : ℕ) (slot : Option ℕ) → slot ≡ Some p → has-slot s slot ≡ true → p < s
-slot-there s p slot is has = ltb-true p s (sym (ap (has-slot s) is) ∙ has)
 
 pub length-cleared : (n : ℕ) (cells : List ℕ) → n ≤ length cells → length (cleared n cells) ≡ length cells
 length-cleared n cells h = simp (length-append, length-replicate, length-drop) (omega arith)

@@ -10,6 +10,7 @@ use script::Line;
 use script::Run;
 use script::event_text;
 use script::parse;
+use script::word;
 use std::error::AnyError;
 
 // What was printed, and how much of it was compared with an expectation.
@@ -46,9 +47,12 @@ fn show_times(
     for (event, row) in run.events.iter().zip(stamps.iter()) {
         let did = event_text(heap, *event)?;
         let time = time_text(heap, row.as_slice())?;
-        let words = verdict(tally, time.as_str(), expected.next().unwrap_or("?"));
+        let words = verdict(tally, time.as_str(), word(expected.next())?);
         println!(rt, "  {did}: {time}{words}")?;
         tally.events = tally.events.saturating_add(1);
+    }
+    if expected.next().is_some() {
+        return Err("more times are expected than there are events".into());
     }
     Ok(())
 }

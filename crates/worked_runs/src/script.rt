@@ -44,7 +44,8 @@ pub enum Line<'a> {
     Order(u16, &'a str, &'a str),
 }
 
-fn word<'a>(found: Option<&'a str>) -> Result<&'a str, AnyError> {
+// The next word of a line, which has to be there.
+pub fn word<'a>(found: Option<&'a str>) -> Result<&'a str, AnyError> {
     match found {
         Some(text) => Ok(text),
         None => Err("a line ends early".into()),

@@ -1,30 +1,19 @@
-use mathlib.Core.Path.{refl, sym, ap, _∙_}
-use Prim.Native.Nat.{_+_, _<_}
+use mathlib.Core.Path.{refl}
 use native.Mathlib.Omega.{arith}
-use Rattle.clock_bank.specs.Steps.{posting}
-use Rattle.flat_bank.specs.Shape.{row-within}
-use Rattle.flat_bank.specs.View.{view}
-use Rattle.flat_bank.proofs.Moves.{post-left, slot-there}
+use Rattle.flat_bank.proofs.Moves.{post-left, slot-behind}
 use Rattle.flat_bank.proofs.flat.FlatBank.post.Needs as need
 
 pub copy-requires : need.copy-requires
-copy-requires c κs =
-    let self = c .args .self .now in
-    let k = self .threads in
-    let p = c .in-Some .number in
-    let there : p < self .slots = slot-there (self .slots) p (c .args .slot) (c .in-Some .is) (c .pre .1) in
-    (row-within (c .args .thread) (k + p) k (omega arith), omega (arith, row-within (k + p) (k + self .slots) k (omega arith), self .fits))
+copy-requires c κs = let b = c .args .self .now in slot-behind (b .threads) (b .slots) (b .table .cells .now) (b .fits) (c .args .thread) (c .in-Some .number) (c .args .slot) (omega arith) (c .in-Some .is) (c .pre .1)
 
 pub ghost-self : need.ghost-self
 ghost-self c =
-    let self = c .args .self .now in
-    let there = slot-there (self .slots) (c .in-Some .number) (c .args .slot) (c .in-Some .is) (c .pre .1) in
-    let left = post-left (self .threads) (self .slots) (self .table .cells .now) (self .fits) (c .args .thread) (c .in-Some .number) (c .copy .last .self .cells .now) (omega arith) there (c .copy .ensures) in
-    (self .few, (self .some, (left .fits, tt)))
+    let b = c .args .self .now in
+    let left = post-left (b .threads) (b .slots) (b .table .cells .now) (b .fits) (c .args .thread) (c .in-Some .number) (c .args .slot) (c .copy .last .self .cells .now) (omega arith) (c .in-Some .is) (c .pre .1) (c .copy .ensures) in
+    (b .few, (b .some, (left .fits, tt)))
 
 pub returns-in-Some : need.returns-in-Some
 returns-in-Some c =
-    let self = c .args .self .now in
-    let there = slot-there (self .slots) (c .in-Some .number) (c .args .slot) (c .in-Some .is) (c .pre .1) in
-    let left = post-left (self .threads) (self .slots) (self .table .cells .now) (self .fits) (c .args .thread) (c .in-Some .number) (c .copy .last .self .cells .now) (omega arith) there (c .copy .ensures) in
-    record { threads = refl; slots = refl; rows = left .rows ∙ ap (posting (view self) (c .args .thread)) (sym (c .in-Some .is)); behind = left .rest }
+    let b = c .args .self .now in
+    let left = post-left (b .threads) (b .slots) (b .table .cells .now) (b .fits) (c .args .thread) (c .in-Some .number) (c .args .slot) (c .copy .last .self .cells .now) (omega arith) (c .in-Some .is) (c .pre .1) (c .copy .ensures) in
+    record { threads = refl; slots = refl; rows = left .rows; behind = left .rest }
