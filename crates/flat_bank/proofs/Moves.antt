@@ -19,7 +19,8 @@ use Rattle.clock_bank.specs.Steps.{growing, taking, posting}
 use Rattle.flat_bank.specs.Flat.{run, rows-in, flat-rows, places, cleared}
 use Rattle.flat_bank.specs.Shape.{length-rows, row-at, row-within, length-run, thread-row, slot-row}
 use Rattle.clock_bank.proofs.Advance.{same-rows}
-use Rattle.flat_bank.proofs.Runs.{run-same, run-beside, getD-run, getD-beside, length-larger, set-in-run}
+use Rattle.clock_bank.proofs.Entries.{length-larger}
+use Rattle.flat_bank.proofs.Runs.{run-same, run-beside, getD-run, getD-beside, set-in-run}
 
 -- rows of a table that begins with m zeros
 zero-rows : (n k m : ℕ) (rest : List ℕ) → n * k ≤ m → rows-in n k (replicate m 0 ++ rest) ≡ replicate n (replicate k 0)

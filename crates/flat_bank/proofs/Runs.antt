@@ -1,8 +1,8 @@
 -- Rows in a list of numbers, and what a write to one of them leaves. Assumes nothing.
-use mathlib.Core.Path.{_≡_, refl, sym, ap, subst, _∙_}
+use mathlib.Core.Path.{_≡_, sym, ap, subst, _∙_}
 use mathlib.Core.Logic.{_⊎_, inl, inr}
-use mathlib.Core.List.{List, [], _∷_}
-use Prim.Native.Nat.{ℕ, zero, suc, _+_, _-_, _<_, _≤_, max}
+use mathlib.Core.List.{List}
+use Prim.Native.Nat.{ℕ, _+_, _-_, _<_, _≤_}
 use native.Mathlib.Omega.{arith}
 use borrow.Author.Needs.{needs}
 use lib.ListN.{length, getD, set, drop}
@@ -10,7 +10,6 @@ use lib.Seq.{paste}
 use Rattle.std.proofs.shelf.Lists.{places, same-lists, getD-take, getD-drop, length-take, length-drop, length-set, getD-set-same, getD-set-other}
 use Rattle.std.proofs.shelf.Edits.{length-paste, paste-more}
 use Rattle.std.proofs.shelf.Tests.{cases-eq, cases-lt}
-use Rattle.clock_bank.specs.Rows.{larger}
 use Rattle.flat_bank.specs.Flat.{run}
 use Rattle.flat_bank.specs.Shape.{length-run}
 
@@ -33,17 +32,6 @@ module _ (cells : List ℕ) (at n : ℕ) (ys : List ℕ) (long : length ys ≡ n
       (λ j d h. let l : j < n = omega (arith, simp (length-take, length-drop) at h) in
       getD-run b n j d (paste cells at ys n) l ∙ getD-beside cells at n ys (b + j) d (omega arith) fits (elim apart [ inl p ↦ inl (omega arith) | inr p ↦ inr (omega arith) ])
       ∙ sym (getD-run b n j d cells l))
-
-pub length-larger : (xs ys : List ℕ) → length (larger xs ys) ≡ length xs
-length-larger [] ys = refl
-length-larger (x ∷ xs) [] = refl
-length-larger (x ∷ xs) (y ∷ ys) = ap suc (length-larger xs ys)
-
-pub getD-larger : (xs ys : List ℕ) (i d : ℕ) → i < length xs → i < length ys → getD (larger xs ys) i d ≡ max (getD xs i d) (getD ys i d)
-getD-larger [] ys i d h l = absurd (omega arith)
-getD-larger (x ∷ xs) [] i d h l = absurd (omega arith)
-getD-larger (x ∷ xs) (y ∷ ys) zero d h l = refl
-getD-larger (x ∷ xs) (y ∷ ys) (suc i) d h l = getD-larger xs ys i d (omega arith) (omega arith)
 
 -- a turn of the loop that writes ys from a place on
 pub paste-turn : (cells now ys : List ℕ) (at i v : ℕ) → now ≡ paste cells at ys i → v ≡ getD ys i 0 → i < length ys → at + i < length cells

@@ -1,0 +1,11 @@
+pub mod Closures
+pub mod LocalTimes
+pub mod Largest
+pub mod Slots
+pub mod Times
+pub mod Locks
+pub mod Listing
+pub mod Found
+pub mod Matched
+pub mod AlikeTraces
+pub mod WorkedRuns

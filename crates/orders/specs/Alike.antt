@@ -1,0 +1,59 @@
+-- Two traces of one behaviour, compared by the names of their events. Assumes nothing.
+use mathlib.Core.Path.{_≡_}
+use mathlib.Core.Logic.{_⊎_, _↔_}
+use mathlib.Core.Bool.{cond}
+use mathlib.Core.List.{List, [], _∷_, List·Memᴰ}
+use Prim.Native.Nat.{ℕ, _<_}
+use lib.Dec.{eqb}
+use lib.ListN.{length}
+use Rattle.events.specs.declared.event.Operation.{Operation}
+use Rattle.events.specs.declared.event.Event.{Event}
+use Rattle.events.specs.Rules.{OrderRule}
+use Rattle.orders.specs.declared.pair.PositionPair.{PositionPair}
+use Rattle.orders.specs.Traces.{SameName}
+use Rattle.orders.specs.Orders.{Relation, Takes, Posts, Last}
+use Rattle.orders.specs.Times.{Time}
+use Rattle.orders.specs.Pairs.{Pair, Lists}
+
+-- what thread t does, in its order
+abbrev pub operations : ℕ → List Event → List Operation
+operations t [] = []
+operations t (e ∷ es) = cond (eqb (e .thread) t) (e .operation ∷ operations t es) (operations t es)
+
+-- an event of the other trace has the name of that at i, and is in Set
+pub record Partner (log other : List Event) (i : ℕ) (Set : ℕ → Type 0) : Type 0 where
+  pub at : ℕ
+  pub name : SameName log other i at
+  pub member : Set at
+
+-- the last post to slot s before i, if there is one, is by name the last post to s before j in the other trace
+abbrev pub Finds : OrderRule → ℕ → List Event → List Event → ℕ → ℕ → ℕ → Type 0
+Finds r locks log other s i j = (q : ℕ) → Last (Posts r locks log s) q i → Partner log other q (λ p. Last (Posts r locks other s) p j)
+
+-- every thread has the same operations in both, and every taking event finds the same last post, or none in both
+pub record Alike (r : OrderRule) (locks : ℕ) (log other : List Event) : Type 0 where
+  pub does : (t : ℕ) → operations t log ≡ operations t other
+  pub finds : (i j s : ℕ) → i < length log → j < length other → SameName log other i j → Takes r locks log s i →
+      Finds r locks log other s i j × Finds r locks other log s j i
+
+-- i and j are positions of their traces, and their events have one name
+pub record Same (log other : List Event) (i j : ℕ) : Type 0 where
+  pub left : i < length log
+  pub right : j < length other
+  pub name : SameName log other i j
+
+-- two pairs of positions are of the same two events, either one first
+abbrev pub SameEvents : List Event → List Event → PositionPair → PositionPair → Type 0
+SameEvents log other p q =
+    (Same log other (p .earlier) (q .earlier) × Same log other (p .later) (q .later))
+    ⊎ (Same log other (p .earlier) (q .later) × Same log other (p .later) (q .earlier))
+
+-- under the order B of one trace and the order C of the other, the same events are related, times are equal,
+-- and the lists have the same pairs of events and equal totals
+pub record Agree (log other : List Event) (B C : Relation) : Type 0 where
+  pub order : (i j k l : ℕ) → Same log other i k → Same log other j l → B i j ↔ C k l
+  pub times : (i k t v : ℕ) → Same log other i k → Time B log i t v ↔ Time C other k t v
+  pub pairs : (i j k l : ℕ) → Same log other i k → Same log other j l → Pair B log i j ↔ Pair C other k l
+  pub listed : (ps qs : List PositionPair) → Lists B log ps → Lists C other qs → (p : PositionPair) → List·Memᴰ p ps →
+      (q : PositionPair) × List·Memᴰ q qs × SameEvents log other p q
+  pub totals : (ps qs : List PositionPair) → Lists B log ps → Lists C other qs → length ps ≡ length qs

@@ -1,0 +1,9 @@
+pub mod Traces
+pub mod Accepted
+pub mod Orders
+pub mod Times
+pub mod Pairs
+pub mod Stamps
+pub mod Alike
+pub mod WorkedRuns
+pub mod Theorems

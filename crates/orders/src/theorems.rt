@@ -1,0 +1,37 @@
+// The theorems on orders, times and pairs, each the contract of a function that computes nothing: a caller, or a
+// reader of the check, has the statement by it. `specs/Theorems.antt` has the statements.
+ghost use Prim.Native.Nat.{ℕ};
+ghost use Rattle.orders.specs.Theorems.{SmallestOrders, RulesMeanOrders, StampsAreTimes, PairsAreFound, AlikeTracesAgree, FewerPairs, WorkedRunsHold};
+
+// Any relation between positions, for what is said of all of them.
+pub trait Relates {
+    ghost relates: { ℕ → ℕ → Type 0 };
+}
+
+pub fn orders_are_smallest<E: Relates, R: Relates>()
+    ensures { λ _. ⌜ SmallestOrders (E·Relates .relates) (R·Relates .relates) ⌝ }
+{}
+
+pub fn rules_mean_orders()
+    ensures { λ _. ⌜ RulesMeanOrders ⌝ }
+{}
+
+pub fn stamps_are_times()
+    ensures { λ _. ⌜ StampsAreTimes ⌝ }
+{}
+
+pub fn pairs_are_found<R: Relates>()
+    ensures { λ _. ⌜ PairsAreFound (R·Relates .relates) ⌝ }
+{}
+
+pub fn alike_traces_agree()
+    ensures { λ _. ⌜ AlikeTracesAgree ⌝ }
+{}
+
+pub fn order_2_has_fewer_pairs()
+    ensures { λ _. ⌜ FewerPairs ⌝ }
+{}
+
+pub fn worked_runs_hold()
+    ensures { λ _. ⌜ WorkedRunsHold ⌝ }
+{}
