@@ -8,17 +8,21 @@ use native.Mathlib.Omega.{arith}
 use native.Mathlib.Decide.{ℕ-discrete, decLt}
 use lib.ListN.{length, getD}
 use Rattle.std.proofs.shelf.Tests.{eq-eqb, ne-eqb}
+use Rattle.std.proofs.shelf.Ways.{tells}
 use Rattle.events.specs.declared.event.Operation.{Operation}
 use Rattle.events.specs.declared.event.Event.{Event}
 use Rattle.events.specs.Events.{kind-of}
 use Rattle.events.specs.Conflicts.{Conflict, is-write}
-use Rattle.events.specs.Rules.{OrderRule}
+use Rattle.events.specs.Rules.{OrderRule, happens-before}
 use Rattle.orders.specs.declared.pair.PositionPair.{PositionPair}
 use Rattle.orders.specs.Traces.{event, thread-at, operation-at, count, local}
-use Rattle.orders.specs.Orders.{Relation, self, then, InThread, thread-edge, slot-edge, Before}
+use Rattle.orders.specs.Orders.{Relation, self, then, InThread, Takes, thread-edge, slot-edge, Before}
 use Rattle.orders.specs.Times.{Reached, Time}
 use Rattle.orders.specs.Pairs.{Pair, positions, Ahead, Rising, Lists}
 use Rattle.orders.specs.Alike.{operations, Alike, Same, SameEvents, Agree}
+use Rattle.orders.specs.WorkedRuns.{run-b, turned-b}
+use Rattle.orders.specs.Theorems.{AlikeTracesAgree}
+use Rattle.orders.proofs.Slots.{none-some}
 use Rattle.orders.proofs.Closures.{upwards, edge-up}
 use Rattle.orders.proofs.LocalTimes.{count-same, count-other, local-is, local-within, local-less, less-from-local, local-at, name-back, name-one}
 use Rattle.orders.proofs.Matched.{Apart, no-more}
@@ -181,7 +185,13 @@ follows-agree log other B C forth back = record {
     pair-follows other log C B back forth k l i j (same-back a) (same-back b),
   );
   listed = list-follows log other B C forth back;
-  totals = λ ps qs l m. omega (arith, total-follows log other B C forth back ps qs l m, total-follows other log C B back forth qs ps m l);
+  totals = λ m n a b. omega (
+    arith,
+    total-follows log other B C forth back (a .list) (b .list) (a .lists) (b .lists),
+    total-follows other log C B back forth (b .list) (a .list) (b .lists) (a .lists),
+    a .counts,
+    b .counts,
+  );
 }
 
 module _ (log other : List Event) (does : (t : ℕ) → operations t log ≡ operations t other) where
@@ -236,7 +246,22 @@ module _ (r : OrderRule) (locks : ℕ) (log other : List Event) (alike : Alike r
     upwards = λ i j before. upwards (edge-up r locks log) before;
   }
 
-pub alike-agree : (r : OrderRule) (locks : ℕ) (log other : List Event) → Alike r locks log other →
+alike-agree : (r : OrderRule) (locks : ℕ) (log other : List Event) → Alike r locks log other →
     Agree log other (Before r locks log) (Before r locks other)
 alike-agree r locks log other alike = follows-agree log other (Before r locks log) (Before r locks other)
     (alike-follows r locks log other alike) (alike-follows r locks other log (alike-back r locks log other alike))
+
+-- the operations of run B's threads are the same in either order
+turned-does : (t : ℕ) → operations t (run-b .log) ≡ operations t turned-b
+turned-does t = grind (arith, tells)
+
+no-takes : (i s : ℕ) → i < 2 → Takes happens-before 0 (run-b .log) s i → ⊥
+no-takes zero s h takes = none-some takes
+no-takes (suc zero) s h takes = none-some takes
+no-takes (suc (suc i)) s h takes = omega arith
+
+pub alike-traces-agree : AlikeTracesAgree
+alike-traces-agree = record {
+  agree = alike-agree;
+  example = record { does = turned-does; finds = λ i j s h k name takes. absurd (no-takes i s h takes) };
+}

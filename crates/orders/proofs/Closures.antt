@@ -39,7 +39,7 @@ edge-1-up log i j (thread-edge-1 t) = omega arith
 edge-1-up log i j (lock-edge l earlier release acquire) = omega arith
 
 pub edge-2-up : (log : List Event) (i j : ℕ) → Edge2 log i j → i ≤ j
-edge-2-up log i j (order-edge b) = upwards (edge-1-up log) b
+edge-2-up log i j (order-edge b) = omega (arith, upwards (edge-1-up log) b)
 edge-2-up log i j (write-edge v inside read last) = omega arith
 
 smallest : (E R : Relation) → ((i j : ℕ) → E i j → i ≤ j) → Smallest E (Closure E) R

@@ -16,11 +16,11 @@ use Rattle.orders.specs.declared.counts.Counts.{Counts}
 use Rattle.orders.specs.Traces.{event, thread-at, local}
 use Rattle.orders.specs.Accepted.{Inside}
 use Rattle.orders.specs.Orders.{Relation, Earlier, Before}
-use Rattle.orders.specs.Pairs.{Pair}
+use Rattle.orders.specs.Pairs.{Pair, Lists}
 use Rattle.orders.specs.Stamps.{stamp, unseen, found}
 use Rattle.orders.specs.Theorems.{PairsAreFound}
 use Rattle.orders.proofs.Closures.{upwards, edge-up}
-use Rattle.orders.proofs.Times.{stamp-time, stamps-are-times}
+use Rattle.orders.proofs.Times.{stamp-time, rule-told}
 use Rattle.orders.proofs.Listing.{lists-one, lists-by-test}
 
 module _ (r : OrderRule) (law : Lawful r) (c : Counts) (log : List Event) (inside : Inside c log) where
@@ -34,7 +34,7 @@ module _ (r : OrderRule) (law : Lawful r) (c : Counts) (log : List Event) (insid
       within = omega arith
 
       order : Before r (c .locks) log i j ↔ local log i ≤ getD (stamp r c log j) (thread-at log i) 0
-      order = stamps-are-times .rule r (c .locks) log i j (getD (stamp r c log j) (thread-at log i) 0) within (h .inside)
+      order = rule-told r (c .locks) log i j (getD (stamp r c log j) (thread-at log i) 0) within (h .inside)
           (stamp-time r law c log inside j (thread-at log i) (h .inside) (inside .thread i within))
 
       sound : unseen r c log i j ≡ true → Pair (Before r (c .locks) log) log i j
@@ -53,9 +53,13 @@ module _ (r : OrderRule) (law : Lawful r) (c : Counts) (log : List Event) (insid
           less : getD (stamp r c log j) (thread-at log i) 0 < local log i
           less = elim (cases-lt (getD (stamp r c log j) (thread-at log i) 0) (local log i)) [ inl a ↦ a | inr a ↦ absurd (p .not-before (order .1 a)) ]
 
+  pub found-list : Lists (Before r (c .locks) log) log (found r c log)
+  found-list = lists-by-test (Before r (c .locks) log) log (unseen r c log) unseen-decides
+
 pub pairs-are-found : (R : Relation) → PairsAreFound R
 pairs-are-found R = record {
   each = unseen-decides;
-  list = λ r law c log inside. lists-by-test (Before r (c .locks) log) log (unseen r c log) (unseen-decides r law c log inside);
+  list = found-list;
+  total = λ r law c log inside. record { list = found r c log; lists = found-list r law c log inside; counts = refl };
   one = lists-one R;
 }

@@ -22,7 +22,7 @@ module _ (log : List Event) where
   count-more t n m h = le-ind (λ k. count log t n ≤ count log t k) (omega arith) (λ k a b. omega (arith, count-step t k)) m h
 
   pub local-is : (t i : ℕ) → thread-at log i ≡ t → local log i ≡ suc (count log t i)
-  local-is t i own = ap (λ u. count log u (suc i)) own ∙ count-same t i own
+  local-is t i own = omega (arith, ap (λ u. count log u (suc i)) own, count-same t i own)
 
   pub local-within : (t i n : ℕ) → thread-at log i ≡ t → i < n → local log i ≤ count log t n
   local-within t i n own h = omega (arith, local-is t i own, count-same t i own, count-more t (suc i) n h)

@@ -144,7 +144,7 @@ module _ (r : OrderRule) (law : Lawful r) (c : Counts) (log : List Event) (ok : 
 
   order-1-in : (i j : ℕ) → Edge1 log i j → Before r (c .locks) log i j
   order-1-in i j (thread-edge-1 e) = one-edge (thread-edge e)
-  order-1-in i j (lock-edge l h a b) = lock-order (suc j) i j l (omega arith) h a b
+  order-1-in i j (lock-edge l h a b) = lock-order (suc j) i j l (omega arith) h (cc) (cc)
 
 takes-1-is : (locks : ℕ) (o : Operation) (s : ℕ) → takes-1 locks o ≡ Some s → o ≡ Acquire s
 takes-1-is locks (Read v) s e = absurd (none-some e)

@@ -22,7 +22,7 @@ use Rattle.orders.specs.Stamps.{after, stamp}
 use Rattle.orders.specs.Theorems.{ToldByTimes, StampsAreTimes}
 use Rattle.orders.proofs.LocalTimes.{Event-of, local-is, local-within, local-less, local-at}
 use Rattle.orders.proofs.Closures.{upwards, edge-up, edge-1-up, edge-2-up, closure-order, one-edge}
-use Rattle.orders.proofs.Largest.{largest-as, largest-same, largest-none, largest-both}
+use Rattle.orders.proofs.Largest.{largest-as, largest-same, largest-none, largest-both, largest-one}
 use Rattle.orders.proofs.Slots.{none-some, takes-inside}
 
 module _ (r : OrderRule) (locks : ℕ) (log : List Event) where
@@ -140,14 +140,14 @@ module _ (r : OrderRule) (locks : ℕ) (log : List Event) where
   slot-kept n s t v other l = largest-same forth back l
     where
       late : (q k : ℕ) → Last (Posts r locks log s) q n → q < k → k < suc n → Posts r locks log s k → ⊥
-      late q k last a b post = elim (decLt k n) [ yes h ↦ last .latest k a h post | no h ↦ let z : k ≡ n = omega arith in other (rw z at post) ]
+      late q k last a b post = elim (decLt k n) [ yes h ↦ last .latest k (omega arith) (omega arith) post | no h ↦ let z : k ≡ n = omega arith in other (rw z at post) ]
 
       forth : (j : ℕ) → Held s n j → Held s (suc n) j
       forth j h = record { at = h .at; last = record { earlier = omega (arith, h .last .earlier); holds = h .last .holds; latest = λ k a b p. late (h .at) k (h .last) a b p }; before = h .before }
 
       back : (j : ℕ) → Held s (suc n) j → Held s n j
       back j h = elim (decLt (h .at) n) [
-        | yes a ↦ record { at = h .at; last = record { earlier = a; holds = h .last .holds; latest = λ k b d p. h .last .latest k b (omega arith) p }; before = h .before }
+        | yes a ↦ record { at = h .at; last = record { earlier = a; holds = h .last .holds; latest = λ k b d p. h .last .latest k (omega arith) (omega arith) p }; before = h .before }
         | no a ↦ let z : h .at ≡ n = omega (arith, h .last .earlier) in absurd (other (rw z at (h .last .holds)))
       ]
 
@@ -158,7 +158,7 @@ module _ (r : OrderRule) (locks : ℕ) (log : List Event) where
     where
       back : (j : ℕ) → Held s (suc n) j → Before r locks log j n
       back j h = elim (decLt (h .at) n) [
-        | yes a ↦ absurd (h .last .latest n a (omega arith) post)
+        | yes a ↦ absurd (h .last .latest n (omega arith) (omega arith) post)
         | no a ↦ let z : h .at ≡ n = omega (arith, h .last .earlier) in rw z at (h .before)
       ]
 
@@ -248,10 +248,15 @@ told B log order up threads i j v inside below time = (λ b. time .bound i b ref
         go (no a) (yes b) = absurd (omega (arith, w .time, local-less log (thread-at log i) (w .at) i (w .own) refl b))
         go (no a) (no b) = let z : w .at ≡ i = omega arith in rw z at (w .member)
 
-pub stamps-are-times : StampsAreTimes
-stamps-are-times = record {
+-- times tell a rule's order
+pub rule-told : (r : OrderRule) (locks : ℕ) (log : List Event) → ToldByTimes (Before r locks log) log
+rule-told r locks log = told (Before r locks log) log (closure-order _) (λ i j b. upwards (edge-up r locks log) b) (λ i j e. one-edge (thread-edge e))
+
+pub stamps-are-times : (R : Relation) → StampsAreTimes R
+stamps-are-times R = record {
   times = stamp-time;
-  rule = λ r locks log. told (Before r locks log) log (closure-order _) (λ i j b. upwards (edge-up r locks log) b) (λ i j e. one-edge (thread-edge e));
+  rule = rule-told;
   order-1 = λ log. told (Order1 log) log (closure-order _) (λ i j b. upwards (edge-1-up log) b) (λ i j e. one-edge (thread-edge-1 e));
   order-2 = λ log. told (Order2 log) log (closure-order _) (λ i j b. upwards (edge-2-up log) b) (λ i j e. one-edge (order-edge (one-edge (thread-edge-1 e))));
+  one = λ log i t v w a b. largest-one a b;
 }

@@ -29,7 +29,7 @@ use Rattle.orders.proofs.Largest.{largest-same}
 use Rattle.orders.proofs.Slots.{happens-before-lawful, schedulable-lawful}
 use Rattle.orders.proofs.Times.{stamp-time, stamp-long}
 use Rattle.orders.proofs.Locks.{rules-mean-orders}
-use Rattle.orders.proofs.Found.{pairs-are-found}
+use Rattle.orders.proofs.Found.{found-list}
 
 -- the test of one event of an accepted trace
 abbrev free : Option ℕ → Bool
@@ -117,7 +117,7 @@ module _ (r : OrderRule) (law : Lawful r) (c : Counts) (log : List Event) (insid
 
   listed : (ps : List PositionPair) → found r c log ≡ ps → Lists B log ps
   listed ps same =
-      let l = pairs-are-found B .list r law c log inside in
+      let l = found-list r law c log inside in
       subst (Lists B log) same (record {
         rising = l .rising;
         placed = l .placed;

@@ -13,7 +13,7 @@ use Rattle.orders.specs.declared.pair.PositionPair.{PositionPair}
 use Rattle.orders.specs.Traces.{SameName}
 use Rattle.orders.specs.Orders.{Relation, Takes, Posts, Last}
 use Rattle.orders.specs.Times.{Time}
-use Rattle.orders.specs.Pairs.{Pair, Lists}
+use Rattle.orders.specs.Pairs.{Pair, Lists, Total}
 
 -- what thread t does, in its order
 abbrev pub operations : ℕ → List Event → List Operation
@@ -56,4 +56,4 @@ pub record Agree (log other : List Event) (B C : Relation) : Type 0 where
   pub pairs : (i j k l : ℕ) → Same log other i k → Same log other j l → Pair B log i j ↔ Pair C other k l
   pub listed : (ps qs : List PositionPair) → Lists B log ps → Lists C other qs → (p : PositionPair) → List·Memᴰ p ps →
       (q : PositionPair) × List·Memᴰ q qs × SameEvents log other p q
-  pub totals : (ps qs : List PositionPair) → Lists B log ps → Lists C other qs → length ps ≡ length qs
+  pub totals : (m n : ℕ) → Total B log m → Total C other n → m ≡ n

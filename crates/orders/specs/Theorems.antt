@@ -7,17 +7,17 @@ use lib.ListN.{length, getD}
 use Rattle.std.specs.Orderings.{Decides}
 use Rattle.std.specs.shelf.Lists.{All}
 use Rattle.events.specs.declared.event.Event.{Event}
-use Rattle.events.specs.Rules.{OrderRule, Lawful}
+use Rattle.events.specs.Rules.{OrderRule, Lawful, happens-before}
 use Rattle.orders.specs.declared.counts.Counts.{Counts}
 use Rattle.orders.specs.declared.pair.PositionPair.{PositionPair}
 use Rattle.orders.specs.Traces.{thread-at, local}
 use Rattle.orders.specs.Accepted.{Inside, Accepted}
 use Rattle.orders.specs.Orders.{Relation, Closure, Earlier, Edge, Before, Edge1, Order1, Edge2, Order2, Smallest}
 use Rattle.orders.specs.Times.{Time}
-use Rattle.orders.specs.Pairs.{Pair, Lists}
+use Rattle.orders.specs.Pairs.{Pair, Lists, Total}
 use Rattle.orders.specs.Stamps.{stamp, unseen, found}
 use Rattle.orders.specs.Alike.{Alike, Agree}
-use Rattle.orders.specs.WorkedRuns.{Holds, runs}
+use Rattle.orders.specs.WorkedRuns.{Holds, run-b, turned-b, runs}
 
 -- the closure of edges E that lead to no earlier position is the smallest partial order that contains them;
 -- so are a rule's order and orders 1 and 2. R is any relation
@@ -39,13 +39,15 @@ abbrev pub ToldByTimes : Relation → List Event → Type 0
 ToldByTimes B log =
     (i j v : ℕ) → i < length log → j < length log → Time B log j (thread-at log i) v → B i j ↔ local log i ≤ v
 
--- a bank that follows a trace from fresh rows has after each event, in its thread's row, the event's time
-pub record StampsAreTimes : Type 0 where
+-- a bank that follows a trace from fresh rows has after each event, in its thread's row, the event's time; no relation R
+-- gives an event two times
+pub record StampsAreTimes (R : Relation) : Type 0 where
   pub times : (r : OrderRule) → Lawful r → (c : Counts) (log : List Event) → Inside c log →
       (i t : ℕ) → i < length log → t < c .threads → Time (Before r (c .locks) log) log i t (getD (stamp r c log i) t 0)
   pub rule : (r : OrderRule) (locks : ℕ) (log : List Event) → ToldByTimes (Before r locks log) log
   pub order-1 : (log : List Event) → ToldByTimes (Order1 log) log
   pub order-2 : (log : List Event) → ToldByTimes (Order2 log) log
+  pub one : (log : List Event) (i t v w : ℕ) → Time R log i t v → Time R log i t w → v ≡ w
 
 -- the pairs found by comparing local times with stamps are the pairs of the order, and they are found in the order of
 -- the list; no relation R has two lists
@@ -54,12 +56,15 @@ pub record PairsAreFound (R : Relation) : Type 0 where
       (i j : ℕ) → Earlier log i j → Decides (unseen r c log i j) (Pair (Before r (c .locks) log) log i j)
   pub list : (r : OrderRule) → Lawful r → (c : Counts) (log : List Event) → Inside c log →
       Lists (Before r (c .locks) log) log (found r c log)
+  pub total : (r : OrderRule) → Lawful r → (c : Counts) (log : List Event) → Inside c log →
+      Total (Before r (c .locks) log) log (length (found r c log))
   pub one : (log : List Event) (ps qs : List PositionPair) → Lists R log ps → Lists R log qs → ps ≡ qs
 
--- two traces that are alike under a rule agree under its order
-abbrev pub AlikeTracesAgree : Type 0
-AlikeTracesAgree = (r : OrderRule) (locks : ℕ) (log other : List Event) → Alike r locks log other →
-    Agree log other (Before r locks log) (Before r locks other)
+-- two traces that are alike under a rule agree under its order; they may differ, as the events of run B in either order
+pub record AlikeTracesAgree : Type 0 where
+  pub agree : (r : OrderRule) (locks : ℕ) (log other : List Event) → Alike r locks log other →
+      Agree log other (Before r locks log) (Before r locks other)
+  pub example : Alike happens-before 0 (run-b .log) turned-b
 
 -- order 2 contains order 1, so every pair of order 2 is a pair of order 1
 pub record FewerPairs : Type 0 where

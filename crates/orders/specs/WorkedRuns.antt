@@ -75,6 +75,10 @@ run-b = run (sizes 2 0 1) (does 0 (Write 0) ∷ does 1 (Read 0) ∷ [])
     (stated (stamped 0 (1 ∷ 0 ∷ []) ∷ stamped 1 (0 ∷ 1 ∷ []) ∷ []) (positions 0 1 ∷ []))
     (stated (stamped 0 (1 ∷ 0 ∷ []) ∷ stamped 1 (1 ∷ 1 ∷ []) ∷ []) [])
 
+-- its events in the other order
+abbrev pub turned-b : List Event
+turned-b = does 1 (Read 0) ∷ does 0 (Write 0) ∷ []
+
 -- t0 and t1 write v0, t2 reads it
 abbrev pub run-c : Run
 run-c = run (sizes 3 0 1) (does 0 (Write 0) ∷ does 1 (Write 0) ∷ does 2 (Read 0) ∷ [])

@@ -1,5 +1,5 @@
-use Rattle.orders.proofs.AlikeTraces.{alike-agree}
+use Rattle.orders.proofs.AlikeTraces.{alike-traces-agree}
 use Rattle.orders.proofs.theorems.alike_traces_agree.Needs as need
 
 pub returns : need.returns
-returns c = alike-agree
+returns c = alike-traces-agree
