@@ -1,6 +1,6 @@
 -- Traces that are alike agree. Assumes nothing.
 use mathlib.Core.Path.{_≡_, refl, sym, ap, _∙_, subst, subst₂}
-use mathlib.Core.Logic.{_⊎_, inl, inr}
+use mathlib.Core.Logic.{_⊎_, inl, inr, _↔_}
 use mathlib.Core.Bool.{or-comm}
 use mathlib.Core.List.{List, [], _∷_, List·Memᴰ, List·Memᴰ·head, List·Memᴰ·tail}
 use Prim.Native.Nat.{ℕ, zero, suc, _+_, _<_, _≤_}
@@ -8,21 +8,17 @@ use native.Mathlib.Omega.{arith}
 use native.Mathlib.Decide.{ℕ-discrete, decLt}
 use lib.ListN.{length, getD}
 use Rattle.std.proofs.shelf.Tests.{eq-eqb, ne-eqb}
-use Rattle.std.proofs.shelf.Ways.{tells}
 use Rattle.events.specs.declared.event.Operation.{Operation}
 use Rattle.events.specs.declared.event.Event.{Event}
 use Rattle.events.specs.Events.{kind-of}
 use Rattle.events.specs.Conflicts.{Conflict, is-write}
-use Rattle.events.specs.Rules.{OrderRule, happens-before}
+use Rattle.events.specs.Rules.{OrderRule}
 use Rattle.orders.specs.declared.pair.PositionPair.{PositionPair}
 use Rattle.orders.specs.Traces.{event, thread-at, operation-at, count, local}
-use Rattle.orders.specs.Orders.{Relation, self, then, InThread, Takes, thread-edge, slot-edge, Before}
+use Rattle.orders.specs.Orders.{Relation, self, then, InThread, thread-edge, slot-edge, Before}
 use Rattle.orders.specs.Times.{Reached, Time}
 use Rattle.orders.specs.Pairs.{Pair, positions, Ahead, Rising, Lists}
 use Rattle.orders.specs.Alike.{operations, Alike, Same, SameEvents, Agree}
-use Rattle.orders.specs.WorkedRuns.{run-b, turned-b}
-use Rattle.orders.specs.Theorems.{AlikeTracesAgree}
-use Rattle.orders.proofs.Slots.{none-some}
 use Rattle.orders.proofs.Closures.{upwards, edge-up}
 use Rattle.orders.proofs.LocalTimes.{count-same, count-other, local-is, local-within, local-less, less-from-local, local-at, name-back, name-one}
 use Rattle.orders.proofs.Matched.{Apart, no-more}
@@ -79,12 +75,12 @@ same-thread-order {log} {other} {i} {j} {k} {l} a b e =
     record { earlier = record { first = first; inside = b .right }; one-thread = own ∙ b .name .thread }
 
 -- the event at i of one trace, in the other
-record Like (log other : List Event) (i : ℕ) : Type 0 where
+pub record Like (log other : List Event) (i : ℕ) : Type 0 where
   at : ℕ
   same : Same log other i at
 
 -- every event is in the other trace too, and so is the order of every two; B leads to no earlier position
-record Follows (log other : List Event) (B C : Relation) : Type 0 where
+pub record Follows (log other : List Event) (B C : Relation) : Type 0 where
   like : (i : ℕ) → i < length log → Like log other i
   equal : (i k : ℕ) → Same log other i k → event log i ≡ event other k
   order : (i j k l : ℕ) → Same log other i k → Same log other j l → B i j → C k l
@@ -176,7 +172,7 @@ module _ (log other : List Event) (B C : Relation) (forth : Follows log other B 
   total-follows ps qs l m =
       no-more (SameEvents log other) ps qs (rising-apart log other ps (l .rising) (λ p k. l .placed p k .first)) (list-follows ps qs l m)
 
-follows-agree : (log other : List Event) (B C : Relation) → Follows log other B C → Follows other log C B → Agree log other B C
+pub follows-agree : (log other : List Event) (B C : Relation) → Follows log other B C → Follows other log C B → Agree log other B C
 follows-agree log other B C forth back = record {
   order = λ i j k l a b. (forth .order i j k l a b, back .order k l i j (same-back a) (same-back b));
   times = λ i k t v s. (time-follows log other B C forth back i k t v s, time-follows other log C B back forth k i t v (same-back s));
@@ -205,7 +201,7 @@ module _ (log other : List Event) (does : (t : ℕ) → operations t log ≡ ope
       record { at = w .at; same = record { left = h; right = w .before; name = record { thread = sym (w .own); time = sym (w .time) } } }
 
   -- events of one name have one operation, at one place among their thread's
-  same-operation : (i k : ℕ) → Same log other i k → operation-at log i ≡ operation-at other k
+  pub same-operation : (i k : ℕ) → Same log other i k → operation-at log i ≡ operation-at other k
   same-operation i k s =
       let t = thread-at log i in
       let o = operation-at log i in
@@ -216,13 +212,12 @@ module _ (log other : List Event) (does : (t : ℕ) → operations t log ≡ ope
   same-event : (i k : ℕ) → Same log other i k → event log i ≡ event other k
   same-event i k s = λ d. record { thread = s .name .thread d; operation = same-operation i k s d }
 
-alike-back : (r : OrderRule) (locks : ℕ) (log other : List Event) → Alike r locks log other → Alike r locks other log
+pub alike-back : (r : OrderRule) (locks : ℕ) (log other : List Event) → Alike r locks log other → Alike r locks other log
 alike-back r locks log other alike = record {
   does = λ t. sym (alike .does t);
-  finds = λ i j s h k name takes.
-      let same : Same log other j i = record { left = k; right = h; name = name-back name } in
-      let found = alike .finds j i s k h (same .name) (ap (r .takes locks) (same-operation log other (alike .does) j i same) ∙ takes) in
-      (found .1, found .0);
+  finds = λ i j s same takes.
+      let found = alike .finds j i s (same-back same) (ap (r .takes locks) (same-operation log other (alike .does) j i (same-back same)) ∙ takes) in
+      record { forth = found .back; back = found .forth };
 }
 
 module _ (r : OrderRule) (locks : ℕ) (log other : List Event) (alike : Alike r locks log other) where
@@ -233,12 +228,12 @@ module _ (r : OrderRule) (locks : ℕ) (log other : List Event) (alike : Alike r
       let w = find-like log other (alike .does) m (omega arith) in
       then (before-follows before k (w .at) a (w .same)) (thread-edge (same-thread-order (w .same) b e))
   before-follows (then {j = m} {k = j} before (slot-edge s inside takes last)) k l a b =
-      let w = alike .finds j l s inside (b .right) (b .name) takes .0 m last in
-      let same : Same log other m (w .at) = record { left = omega arith; right = omega (arith, w .member .earlier); name = w .name } in
+      let w = alike .finds j l s b takes .forth m last in
+      let same : Same log other m (w .at) = record { left = omega arith; right = omega (arith, w .last .earlier); name = w .name } in
       let takes-too = ap (r .takes locks) (sym (same-operation log other (alike .does) j l b)) ∙ takes in
-      then (before-follows before k (w .at) a same) (slot-edge s (b .right) takes-too (w .member))
+      then (before-follows before k (w .at) a same) (slot-edge s (b .right) takes-too (w .last))
 
-  alike-follows : Follows log other (Before r locks log) (Before r locks other)
+  pub alike-follows : Follows log other (Before r locks log) (Before r locks other)
   alike-follows = record {
     like = find-like log other (alike .does);
     equal = same-event log other (alike .does);
@@ -246,22 +241,18 @@ module _ (r : OrderRule) (locks : ℕ) (log other : List Event) (alike : Alike r
     upwards = λ i j before. upwards (edge-up r locks log) before;
   }
 
-alike-agree : (r : OrderRule) (locks : ℕ) (log other : List Event) → Alike r locks log other →
-    Agree log other (Before r locks log) (Before r locks other)
-alike-agree r locks log other alike = follows-agree log other (Before r locks log) (Before r locks other)
-    (alike-follows r locks log other alike) (alike-follows r locks other log (alike-back r locks log other alike))
-
--- the operations of run B's threads are the same in either order
-turned-does : (t : ℕ) → operations t (run-b .log) ≡ operations t turned-b
-turned-does t = grind (arith, tells)
-
-no-takes : (i s : ℕ) → i < 2 → Takes happens-before 0 (run-b .log) s i → ⊥
-no-takes zero s h takes = none-some takes
-no-takes (suc zero) s h takes = none-some takes
-no-takes (suc (suc i)) s h takes = omega arith
-
-pub alike-traces-agree : AlikeTracesAgree
-alike-traces-agree = record {
-  agree = alike-agree;
-  example = record { does = turned-does; finds = λ i j s h k name takes. absurd (no-takes i s h takes) };
-}
+-- alike traces agree under the rule's order, and under any relations that are the same as it
+pub alike-agree : (r : OrderRule) (locks : ℕ) (log other : List Event) → Alike r locks log other → (B C : Relation) →
+    ((i j : ℕ) → Before r locks log i j ↔ B i j) → ((i j : ℕ) → Before r locks other i j ↔ C i j) → Agree log other B C
+alike-agree r locks log other alike B C b c = follows-agree log other B C
+    (instead log other B C (alike-follows r locks log other alike) b c)
+    (instead other log C B (alike-follows r locks other log (alike-back r locks log other alike)) c b)
+  where
+    instead : (log other : List Event) (B C : Relation) → Follows log other (Before r locks log) (Before r locks other) →
+        ((i j : ℕ) → Before r locks log i j ↔ B i j) → ((i j : ℕ) → Before r locks other i j ↔ C i j) → Follows log other B C
+    instead log other B C f b c = record {
+      like = f .like;
+      equal = f .equal;
+      order = λ i j k l x y before. c k l .0 (f .order i j k l x y (b i j .1 before));
+      upwards = λ i j before. f .upwards i j (b i j .1 before);
+    }

@@ -6,6 +6,8 @@ pub mod Times
 pub mod Locks
 pub mod Listing
 pub mod Found
+pub mod Prefixes
 pub mod Matched
 pub mod AlikeTraces
+pub mod AlikeOrders
 pub mod WorkedRuns

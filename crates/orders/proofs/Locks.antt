@@ -100,11 +100,11 @@ since log l t (suc n) h = go (operation-at log n) refl h (since log l t n)
         ]
 
 module _ (r : OrderRule) (law : Lawful r) (c : Counts) (log : List Event) (ok : Accepted c log) where
-  acquired : (j l : ℕ) → j < length log → operation-at log j ≡ Acquire l → l < c .locks
+  pub acquired : (j l : ℕ) → j < length log → operation-at log j ≡ Acquire l → l < c .locks
   acquired j l h e = subst (HasObject c) e (ok .inside .object j h)
 
   -- only a release of a lock posts to its slot
-  lock-only : (q l : ℕ) → l < c .locks → Posts r (c .locks) log l q → operation-at log q ≡ Release l
+  pub lock-only : (q l : ℕ) → l < c .locks → Posts r (c .locks) log l q → operation-at log q ≡ Release l
   lock-only q l h post = elim (who-posts r law (c .locks) (operation-at log q) l post) [ inl e ↦ e | inr a ↦ absurd (omega (arith, a .slot)) ]
 
   -- every release of a lock is before each later acquire of it: each acquire takes from the last release, whose
@@ -146,13 +146,13 @@ module _ (r : OrderRule) (law : Lawful r) (c : Counts) (log : List Event) (ok : 
   order-1-in i j (thread-edge-1 e) = one-edge (thread-edge e)
   order-1-in i j (lock-edge l h a b) = lock-order (suc j) i j l (omega arith) h (cc) (cc)
 
-takes-1-is : (locks : ℕ) (o : Operation) (s : ℕ) → takes-1 locks o ≡ Some s → o ≡ Acquire s
+pub takes-1-is : (locks : ℕ) (o : Operation) (s : ℕ) → takes-1 locks o ≡ Some s → o ≡ Acquire s
 takes-1-is locks (Read v) s e = absurd (none-some e)
 takes-1-is locks (Write v) s e = absurd (none-some e)
 takes-1-is locks (Acquire l) s e = cc
 takes-1-is locks (Release l) s e = absurd (none-some e)
 
-takes-2-is : (locks : ℕ) (o : Operation) (s : ℕ) → takes-2 locks o ≡ Some s → (o ≡ Acquire s) ⊎ ((v : ℕ) × (o ≡ Read v) × (s ≡ locks + v))
+pub takes-2-is : (locks : ℕ) (o : Operation) (s : ℕ) → takes-2 locks o ≡ Some s → (o ≡ Acquire s) ⊎ ((v : ℕ) × (o ≡ Read v) × (s ≡ locks + v))
 takes-2-is locks (Read v) s e = inr (v, refl, cc)
 takes-2-is locks (Write v) s e = absurd (none-some e)
 takes-2-is locks (Acquire l) s e = inl (cc)
@@ -181,7 +181,7 @@ module _ (r : OrderRule) (law : Lawful r) (second : r .number ≡ 2) (c : Counts
   posts-is o = ap (λ x. x .post) (law .number-2 second (c .locks) o)
 
   -- only a write of a variable posts to its slot
-  write-only : (q v : ℕ) → q < length log → Posts r (c .locks) log (c .locks + v) q → operation-at log q ≡ Write v
+  pub write-only : (q v : ℕ) → q < length log → Posts r (c .locks) log (c .locks + v) q → operation-at log q ≡ Write v
   write-only q v h post = go (posts-2-is (c .locks) (operation-at log q) (c .locks + v) (sym (posts-is (operation-at log q)) ∙ post))
     where
       go : (operation-at log q ≡ Release (c .locks + v)) ⊎ ((x : ℕ) × (operation-at log q ≡ Write x) × (c .locks + v ≡ c .locks + x)) → operation-at log q ≡ Write v

@@ -7,11 +7,12 @@ use Prim.Native.Nat.{ℕ, _<_}
 use lib.Dec.{eqb}
 use lib.ListN.{length}
 use Rattle.events.specs.declared.event.Operation.{Operation}
+use Rattle.events.specs.declared.event.Operation.the-variants.{Read, Write, Acquire, Release}
 use Rattle.events.specs.declared.event.Event.{Event}
 use Rattle.events.specs.Rules.{OrderRule}
 use Rattle.orders.specs.declared.pair.PositionPair.{PositionPair}
 use Rattle.orders.specs.Traces.{SameName}
-use Rattle.orders.specs.Orders.{Relation, Takes, Posts, Last}
+use Rattle.orders.specs.Orders.{Relation, Last, Performs, Takes, Posts}
 use Rattle.orders.specs.Times.{Time}
 use Rattle.orders.specs.Pairs.{Pair, Lists, Total}
 
@@ -20,27 +21,40 @@ abbrev pub operations : ℕ → List Event → List Operation
 operations t [] = []
 operations t (e ∷ es) = cond (eqb (e .thread) t) (e .operation ∷ operations t es) (operations t es)
 
--- an event of the other trace has the name of that at i, and is in Set
-pub record Partner (log other : List Event) (i : ℕ) (Set : ℕ → Type 0) : Type 0 where
-  pub at : ℕ
-  pub name : SameName log other i at
-  pub member : Set at
-
--- the last post to slot s before i, if there is one, is by name the last post to s before j in the other trace
-abbrev pub Finds : OrderRule → ℕ → List Event → List Event → ℕ → ℕ → ℕ → Type 0
-Finds r locks log other s i j = (q : ℕ) → Last (Posts r locks log s) q i → Partner log other q (λ p. Last (Posts r locks other s) p j)
-
--- every thread has the same operations in both, and every taking event finds the same last post, or none in both
-pub record Alike (r : OrderRule) (locks : ℕ) (log other : List Event) : Type 0 where
-  pub does : (t : ℕ) → operations t log ≡ operations t other
-  pub finds : (i j s : ℕ) → i < length log → j < length other → SameName log other i j → Takes r locks log s i →
-      Finds r locks log other s i j × Finds r locks other log s j i
-
 -- i and j are positions of their traces, and their events have one name
 pub record Same (log other : List Event) (i j : ℕ) : Type 0 where
   pub left : i < length log
   pub right : j < length other
   pub name : SameName log other i j
+
+-- an event of the other trace has the name of that at q, and is the last before j where P holds
+pub record LastPartner (log other : List Event) (q : ℕ) (P : ℕ → Type 0) (j : ℕ) : Type 0 where
+  pub at : ℕ
+  pub name : SameName log other q at
+  pub last : Last P at j
+
+-- the last position before i where P holds and the last one before j where Q holds in the other trace are of one name,
+-- or there is none in both
+pub record SameLast (log other : List Event) (P Q : ℕ → Type 0) (i j : ℕ) : Type 0 where
+  pub forth : (q : ℕ) → Last P q i → LastPartner log other q Q j
+  pub back : (q : ℕ) → Last Q q j → LastPartner other log q P i
+
+-- every thread has the same operations in both, and every taking event finds the same last post, or none in both
+pub record Alike (r : OrderRule) (locks : ℕ) (log other : List Event) : Type 0 where
+  pub does : (t : ℕ) → operations t log ≡ operations t other
+  pub finds : (i j s : ℕ) → Same log other i j → Takes r locks log s i → SameLast log other (Posts r locks log s) (Posts r locks other s) i j
+
+-- the same in the words of order 1: every acquire finds the same last release of its lock, or none in both
+pub record Alike1 (log other : List Event) : Type 0 where
+  pub does : (t : ℕ) → operations t log ≡ operations t other
+  pub acquires : (i j l : ℕ) → Same log other i j → Performs log (Acquire l) i →
+      SameLast log other (Performs log (Release l)) (Performs other (Release l)) i j
+
+-- in the words of order 2: also every read finds the same last write of its variable, or none in both
+pub record Alike2 (log other : List Event) : Type 0 where
+  pub order-1 : Alike1 log other
+  pub reads : (i j v : ℕ) → Same log other i j → Performs log (Read v) i →
+      SameLast log other (Performs log (Write v)) (Performs other (Write v)) i j
 
 -- two pairs of positions are of the same two events, either one first
 abbrev pub SameEvents : List Event → List Event → PositionPair → PositionPair → Type 0

@@ -4,6 +4,7 @@ use mathlib.Core.List.{List}
 use Prim.Native.Nat.{ℕ, _<_}
 use lib.ListN.{length}
 use Rattle.std.specs.declared.option.Option.the-variants.{Some}
+use Rattle.events.specs.declared.event.Operation.{Operation}
 use Rattle.events.specs.declared.event.Operation.the-variants.{Read, Write, Acquire, Release}
 use Rattle.events.specs.declared.event.Event.{Event}
 use Rattle.events.specs.Rules.{OrderRule}
@@ -45,6 +46,10 @@ pub record Last (P : ℕ → Type 0) (q n : ℕ) : Type 0 where
   pub holds : P q
   pub latest : (k : ℕ) → q < k → k < n → P k → ⊥
 
+-- the event at i is this operation
+abbrev pub Performs : List Event → Operation → ℕ → Type 0
+Performs log o i = operation-at log i ≡ o
+
 -- with so many locks, the event at i takes from slot s, or posts to it
 abbrev pub Takes : OrderRule → ℕ → List Event → ℕ → ℕ → Type 0
 Takes r locks log s i = r .takes locks (operation-at log i) ≡ Some s
@@ -63,7 +68,7 @@ Before r locks log = Closure (Edge r locks log)
 -- order 1, happens-before: thread order, and every release of a lock before each later acquire of that lock
 pub data Edge1 (log : List Event) (i j : ℕ) : Type 0 where
   thread-edge-1 : InThread log i j → Edge1 log i j
-  lock-edge : (l : ℕ) → Earlier log i j → operation-at log i ≡ Release l → operation-at log j ≡ Acquire l → Edge1 log i j
+  lock-edge : (l : ℕ) → Earlier log i j → Performs log (Release l) i → Performs log (Acquire l) j → Edge1 log i j
 
 abbrev pub Order1 : List Event → Relation
 Order1 log = Closure (Edge1 log)
@@ -71,7 +76,7 @@ Order1 log = Closure (Edge1 log)
 -- order 2, schedulable happens-before: order 1, and before each read the last earlier write of its variable
 pub data Edge2 (log : List Event) (i j : ℕ) : Type 0 where
   order-edge : Order1 log i j → Edge2 log i j
-  write-edge : (v : ℕ) → j < length log → operation-at log j ≡ Read v → Last (λ k. operation-at log k ≡ Write v) i j → Edge2 log i j
+  write-edge : (v : ℕ) → j < length log → Performs log (Read v) j → Last (Performs log (Write v)) i j → Edge2 log i j
 
 abbrev pub Order2 : List Event → Relation
 Order2 log = Closure (Edge2 log)

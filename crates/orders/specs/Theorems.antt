@@ -1,9 +1,9 @@
 -- What is proved of orders, times and pairs. Each statement stands on the contract of a function. Assumes nothing.
 use mathlib.Core.Path.{_≡_}
 use mathlib.Core.Logic.{_↔_}
-use mathlib.Core.List.{List}
+use mathlib.Core.List.{List, _++_}
 use Prim.Native.Nat.{ℕ, _≤_, _<_}
-use lib.ListN.{length, getD}
+use lib.ListN.{length, getD, take}
 use Rattle.std.specs.Orderings.{Decides}
 use Rattle.std.specs.shelf.Lists.{All}
 use Rattle.events.specs.declared.event.Event.{Event}
@@ -16,7 +16,7 @@ use Rattle.orders.specs.Orders.{Relation, Closure, Earlier, Edge, Before, Edge
 use Rattle.orders.specs.Times.{Time}
 use Rattle.orders.specs.Pairs.{Pair, Lists, Total}
 use Rattle.orders.specs.Stamps.{stamp, unseen, found}
-use Rattle.orders.specs.Alike.{Alike, Agree}
+use Rattle.orders.specs.Alike.{Alike, Alike1, Alike2, Agree}
 use Rattle.orders.specs.WorkedRuns.{Holds, run-b, turned-b, runs}
 
 -- the closure of edges E that lead to no earlier position is the smallest partial order that contains them;
@@ -60,16 +60,31 @@ pub record PairsAreFound (R : Relation) : Type 0 where
       Total (Before r (c .locks) log) log (length (found r c log))
   pub one : (log : List Event) (ps qs : List PositionPair) → Lists R log ps → Lists R log qs → ps ≡ qs
 
--- two traces that are alike under a rule agree under its order; they may differ, as the events of run B in either order
+-- two traces that are alike under a rule agree under its order, and so do accepted traces under orders 1 and 2; alike
+-- traces may differ, as the events of run B in either order
 pub record AlikeTracesAgree : Type 0 where
-  pub agree : (r : OrderRule) (locks : ℕ) (log other : List Event) → Alike r locks log other →
+  pub rule : (r : OrderRule) (locks : ℕ) (log other : List Event) → Alike r locks log other →
       Agree log other (Before r locks log) (Before r locks other)
+  pub order-1 : (c : Counts) (log other : List Event) → Accepted c log → Accepted c other → Alike1 log other →
+      Agree log other (Order1 log) (Order1 other)
+  pub order-2 : (c : Counts) (log other : List Event) → Accepted c log → Accepted c other → Alike2 log other →
+      Agree log other (Order2 log) (Order2 other)
   pub example : Alike happens-before 0 (run-b .log) turned-b
 
 -- order 2 contains order 1, so every pair of order 2 is a pair of order 1
 pub record FewerPairs : Type 0 where
   pub contained : (log : List Event) (i j : ℕ) → Order1 log i j → Order2 log i j
   pub pairs : (log : List Event) (i j : ℕ) → Pair (Order2 log) log i j → Pair (Order1 log) log i j
+
+-- what holds of a trace's events still holds when more events follow it
+pub record LaterEventsChangeNothing (log more : List Event) : Type 0 where
+  pub local-time : (i : ℕ) → i < length log → local (log ++ more) i ≡ local log i
+  pub rule : (r : OrderRule) (locks i j : ℕ) → j < length log → Before r locks (log ++ more) i j ↔ Before r locks log i j
+  pub order-1 : (i j : ℕ) → j < length log → Order1 (log ++ more) i j ↔ Order1 log i j
+  pub order-2 : (i j : ℕ) → j < length log → Order2 (log ++ more) i j ↔ Order2 log i j
+  pub stamps : (r : OrderRule) (c : Counts) (i : ℕ) → i < length log → stamp r c (log ++ more) i ≡ stamp r c log i
+  pub pairs : (r : OrderRule) (c : Counts) → take (length (found r c log)) (found r c (log ++ more)) ≡ found r c log
+  pub accepted : (c : Counts) → Accepted c (log ++ more) → Accepted c log
 
 -- every worked run is an accepted trace with the times and pairs that it states
 abbrev pub WorkedRunsHold : Type 0

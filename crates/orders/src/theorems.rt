@@ -1,7 +1,9 @@
 // The theorems on orders, times and pairs, each the contract of a function that computes nothing: a caller, or a
 // reader of the check, has the statement by it. `specs/Theorems.antt` has the statements.
 ghost use Prim.Native.Nat.{ℕ, _≤_};
-ghost use Rattle.orders.specs.Theorems.{SmallestOrders, RulesMeanOrders, StampsAreTimes, PairsAreFound, AlikeTracesAgree, FewerPairs, WorkedRunsHold};
+ghost use mathlib.Core.List.{List};
+ghost use Rattle.events.specs.declared.event.Event.{Event};
+ghost use Rattle.orders.specs.Theorems.{SmallestOrders, RulesMeanOrders, StampsAreTimes, PairsAreFound, AlikeTracesAgree, FewerPairs, LaterEventsChangeNothing, WorkedRunsHold};
 
 // Any relation between positions, for what is said of all of them.
 pub trait Relates {
@@ -37,6 +39,10 @@ pub fn alike_traces_agree()
 
 pub fn order_2_has_fewer_pairs()
     ensures { λ _. ⌜ FewerPairs ⌝ }
+{}
+
+pub fn later_events_change_nothing()
+    ensures { λ _. ⌜ ((log more : List Event) → LaterEventsChangeNothing log more) ⌝ }
 {}
 
 pub fn worked_runs_hold()

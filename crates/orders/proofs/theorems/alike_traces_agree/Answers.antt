@@ -1,4 +1,4 @@
-use Rattle.orders.proofs.AlikeTraces.{alike-traces-agree}
+use Rattle.orders.proofs.AlikeOrders.{alike-traces-agree}
 use Rattle.orders.proofs.theorems.alike_traces_agree.Needs as need
 
 pub returns : need.returns
