@@ -38,8 +38,14 @@ partner-as log other P Q P′ Q′ i j q p c finds last =
 same-last-as : (log other : List Event) (P Q : ℕ → Type 0) (o : Operation) (i j : ℕ) → Same log other i j → Means log P o → Means other Q o
     → SameLast log other (Performs log o) (Performs other o) i j → SameLast log other P Q i j
 same-last-as log other P Q o i j same p c s = record {
-  forth = λ q. partner-as log other (Performs log o) (Performs other o) P Q i j q (λ k h. p k (omega (arith, same .left))) (λ k h. turned (c k (omega (arith, same .right)))) (s .forth);
-  back = λ q. partner-as other log (Performs other o) (Performs log o) Q P j i q (λ k h. c k (omega (arith, same .right))) (λ k h. turned (p k (omega (arith, same .left)))) (s .back);
+  forth = λ q. partner-as log other (Performs log o) (Performs other o) P Q i j q
+      (λ k h. p k (omega (arith, same .left)))
+      (λ k h. turned (c k (omega (arith, same .right))))
+      (s .forth);
+  back = λ q. partner-as other log (Performs other o) (Performs log o) Q P j i q
+      (λ k h. c k (omega (arith, same .right)))
+      (λ k h. turned (p k (omega (arith, same .left))))
+      (s .back);
 }
   where
     turned : {A B : Type 0} → A ↔ B → B ↔ A
@@ -66,19 +72,27 @@ module _ (c : Counts) where
         finds i j s same takes =
             let acquire = takes-1-is (c .locks) (operation-at log i) s takes in
             let h = acquired happens-before happens-before-lawful c log ok i s (same .left) acquire in
-            same-last-as log other _ _ (Release s) i j same (releases-1 log ok s h) (releases-1 other ok′ s h) (a .acquires i j s same acquire)
+            let last = a .acquires i j s same acquire in
+            same-last-as log other _ _ (Release s) i j same (releases-1 log ok s h) (releases-1 other ok′ s h) last
 
     alike-2 : Alike2 log other → Alike schedulable (c .locks) log other
-    alike-2 a = record { does = a .order-1 .does; finds = λ i j s same takes. finds i j s same (takes-2-is (c .locks) (operation-at log i) s takes) }
+    alike-2 a = record {
+      does = a .order-1 .does;
+      finds = λ i j s same takes. finds i j s same (takes-2-is (c .locks) (operation-at log i) s takes);
+    }
       where
-        finds : (i j s : ℕ) → Same log other i j → (operation-at log i ≡ Acquire s) ⊎ ((v : ℕ) × (operation-at log i ≡ Read v) × (s ≡ c .locks + v))
+        finds : (i j s : ℕ) → Same log other i j
+            → (operation-at log i ≡ Acquire s) ⊎ ((v : ℕ) × (operation-at log i ≡ Read v) × (s ≡ c .locks + v))
             → SameLast log other (Posts schedulable (c .locks) log s) (Posts schedulable (c .locks) other s) i j
         finds i j s same (inl acquire) =
             let h = acquired schedulable schedulable-lawful c log ok i s (same .left) acquire in
-            same-last-as log other _ _ (Release s) i j same (releases-2 log ok s h) (releases-2 other ok′ s h) (a .order-1 .acquires i j s same acquire)
+            let last = a .order-1 .acquires i j s same acquire in
+            same-last-as log other _ _ (Release s) i j same (releases-2 log ok s h) (releases-2 other ok′ s h) last
         finds i j s same (inr w) =
-            subst (λ x. SameLast log other (Posts schedulable (c .locks) log x) (Posts schedulable (c .locks) other x) i j) (sym (w .2))
-            (same-last-as log other _ _ (Write (w .0)) i j same (writes-2 log ok (w .0)) (writes-2 other ok′ (w .0)) (a .reads i j (w .0) same (w .1)))
+            let slot : c .locks + w .0 ≡ s = sym (w .2) in
+            let last = a .reads i j (w .0) same (w .1) in
+            let posts = same-last-as log other _ _ (Write (w .0)) i j same (writes-2 log ok (w .0)) (writes-2 other ok′ (w .0)) last in
+            subst (λ x. SameLast log other (Posts schedulable (c .locks) log x) (Posts schedulable (c .locks) other x) i j) slot posts
 
 -- the threads of run B have the same operations in either order of its events
 turned-does : (t : ℕ) → operations t (run-b .log) ≡ operations t turned-b

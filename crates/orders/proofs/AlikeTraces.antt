@@ -18,7 +18,7 @@ use Rattle.orders.specs.Traces.{event, thread-at, operation-at, count, local}
 use Rattle.orders.specs.Orders.{Relation, self, then, InThread, thread-edge, slot-edge, Before}
 use Rattle.orders.specs.Times.{Reached, Time}
 use Rattle.orders.specs.Pairs.{Pair, positions, Ahead, Rising, Lists}
-use Rattle.orders.specs.Alike.{operations, Alike, Same, SameEvents, Agree}
+use Rattle.orders.specs.Alike.{operations, Alike, Same, SameEvents, InOther, Agree}
 use Rattle.orders.proofs.Closures.{upwards, edge-up}
 use Rattle.orders.proofs.LocalTimes.{count-same, count-other, local-is, local-within, local-less, less-from-local, local-at, name-back, name-one}
 use Rattle.orders.proofs.Matched.{Apart, no-more}
@@ -156,8 +156,7 @@ module _ (log other : List Event) (B C : Relation) (forth : Follows log other B 
     not-after = λ c. p .not-after (back .order l k j i (same-back b) (same-back a) c);
   }
 
-  list-follows : (ps qs : List PositionPair) → Lists B log ps → Lists C other qs → (p : PositionPair) → List·Memᴰ p ps →
-      (q : PositionPair) × List·Memᴰ q qs × SameEvents log other p q
+  list-follows : (ps qs : List PositionPair) → Lists B log ps → Lists C other qs → InOther log other ps qs
   list-follows ps qs l m p here =
       let e = l .placed p here in
       let v = forth .like (p .earlier) (omega arith) in
@@ -174,13 +173,15 @@ module _ (log other : List Event) (B C : Relation) (forth : Follows log other B 
 
 pub follows-agree : (log other : List Event) (B C : Relation) → Follows log other B C → Follows other log C B → Agree log other B C
 follows-agree log other B C forth back = record {
+  there = λ i h. let w = forth .like i h in (w .at, w .same);
+  here = λ k h. let w = back .like k h in (w .at, same-back (w .same));
   order = λ i j k l a b. (forth .order i j k l a b, back .order k l i j (same-back a) (same-back b));
   times = λ i k t v s. (time-follows log other B C forth back i k t v s, time-follows other log C B back forth k i t v (same-back s));
   pairs = λ i j k l a b. (
     pair-follows log other B C forth back i j k l a b,
     pair-follows other log C B back forth k l i j (same-back a) (same-back b),
   );
-  listed = list-follows log other B C forth back;
+  lists = λ ps qs l m. (list-follows log other B C forth back ps qs l m, list-follows other log C B back forth qs ps m l);
   totals = λ m n a b. omega (
     arith,
     total-follows log other B C forth back (a .list) (b .list) (a .lists) (b .lists),

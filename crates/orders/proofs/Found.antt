@@ -51,7 +51,10 @@ module _ (r : OrderRule) (law : Lawful r) (c : Counts) (log : List Event) (insid
       whole p = and-from _ _ (conflict .1 (p .conflict)) (lt-ltb (getD (stamp r c log j) (thread-at log i) 0) (local log i) less)
         where
           less : getD (stamp r c log j) (thread-at log i) 0 < local log i
-          less = elim (cases-lt (getD (stamp r c log j) (thread-at log i) 0) (local log i)) [ inl a ↦ a | inr a ↦ absurd (p .not-before (order .1 a)) ]
+          less = elim (cases-lt (getD (stamp r c log j) (thread-at log i) 0) (local log i)) [
+            | inl a ↦ a
+            | inr a ↦ absurd (p .not-before (order .1 a))
+          ]
 
   pub found-list : Lists (Before r (c .locks) log) log (found r c log)
   found-list = lists-by-test (Before r (c .locks) log) log (unseen r c log) unseen-decides

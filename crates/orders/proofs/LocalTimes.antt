@@ -16,7 +16,10 @@ module _ (log : List Event) where
   count-other t n other = rw (ne-eqb (thread-at log n) t other)
 
   count-step : (t n : ℕ) → count log t n ≤ count log t (suc n)
-  count-step t n = elim (ℕ-discrete (thread-at log n) t) [ yes e ↦ omega (arith, count-same t n e) | no e ↦ omega (arith, count-other t n e) ]
+  count-step t n = elim (ℕ-discrete (thread-at log n) t) [
+    | yes e ↦ omega (arith, count-same t n e)
+    | no e ↦ omega (arith, count-other t n e)
+  ]
 
   count-more : (t n m : ℕ) → n ≤ m → count log t n ≤ count log t m
   count-more t n m h = le-ind (λ k. count log t n ≤ count log t k) (omega arith) (λ k a b. omega (arith, count-step t k)) m h

@@ -49,7 +49,10 @@ last-before P test i (suc n) h p = go (test n) (last-before P test i n)
           record {
             earlier = omega (arith, w .1 .earlier);
             holds = w .1 .holds;
-            latest = λ k a b c. elim (decLt k n) [ yes d ↦ w .1 .latest k a d c | no d ↦ let z : k ≡ n = omega arith in not-here (rw z at c) ];
+            latest = λ k a b c. elim (decLt k n) [
+              | yes d ↦ w .1 .latest k a d c
+              | no d ↦ let z : k ≡ n = omega arith in not-here (rw z at c)
+            ];
           },
         )
 
@@ -91,7 +94,13 @@ since log l t (suc n) h = go (operation-at log n) refl h (since log l t n)
         by (Read v) is held = longer (λ e. read-release (sym is ∙ e)) held
         by (Write v) is held = longer (λ e. write-release (sym is ∙ e)) held
         by (Acquire m) is held = elim (ℕ-discrete m l) [
-          | yes z ↦ record { at = n; before = omega arith; acquires = is ∙ ap Acquire z; own = cc (rw (eq-eqb m l z) at held); kept = λ k a b e. omega arith }
+          | yes z ↦ record {
+            at = n;
+            before = omega arith;
+            acquires = is ∙ ap Acquire z;
+            own = cc (rw (eq-eqb m l z) at held);
+            kept = λ k a b e. omega arith;
+          }
           | no z ↦ longer (λ e. acquire-release (sym is ∙ e)) (rw (ne-eqb m l z) at held)
         ]
         by (Release m) is held = elim (ℕ-discrete m l) [
@@ -105,16 +114,24 @@ module _ (r : OrderRule) (law : Lawful r) (c : Counts) (log : List Event) (ok : 
 
   -- only a release of a lock posts to its slot
   pub lock-only : (q l : ℕ) → l < c .locks → Posts r (c .locks) log l q → operation-at log q ≡ Release l
-  lock-only q l h post = elim (who-posts r law (c .locks) (operation-at log q) l post) [ inl e ↦ e | inr a ↦ absurd (omega (arith, a .slot)) ]
+  lock-only q l h post = elim (who-posts r law (c .locks) (operation-at log q) l post) [
+    | inl e ↦ e
+    | inr a ↦ absurd (omega (arith, a .slot))
+  ]
 
   -- every release of a lock is before each later acquire of it: each acquire takes from the last release, whose
   -- thread acquired the lock after the releases before it
-  lock-order : (m i j l : ℕ) → j < m → Earlier log i j → operation-at log i ≡ Release l → operation-at log j ≡ Acquire l → Before r (c .locks) log i j
+  lock-order : (m i j l : ℕ) → j < m → Earlier log i j → operation-at log i ≡ Release l → operation-at log j ≡ Acquire l
+      → Before r (c .locks) log i j
   lock-order zero i j l f h a b = absurd (omega arith)
-  lock-order (suc m) i j l f h a b = from (last-before _ (posts-test r (c .locks) log l) i j (h .first) (ap (r .posts (c .locks)) a ∙ law .release-posts (c .locks) l)) (λ k. lock-order m i k l)
+  lock-order (suc m) i j l f h a b =
+      from (last-before _ (posts-test r (c .locks) log l) i j (h .first) post) (λ k. lock-order m i k l)
     where
-      from : (q : ℕ) × Last (Posts r (c .locks) log l) q j
-          → ((k : ℕ) → k < m → Earlier log i k → operation-at log i ≡ Release l → operation-at log k ≡ Acquire l → Before r (c .locks) log i k)
+      post : Posts r (c .locks) log l i
+      post = ap (r .posts (c .locks)) a ∙ law .release-posts (c .locks) l
+
+      from : (q : ℕ) × Last (Posts r (c .locks) log l) q j → (
+          (k : ℕ) → k < m → Earlier log i k → operation-at log i ≡ Release l → operation-at log k ≡ Acquire l → Before r (c .locks) log i k)
           → Before r (c .locks) log i j
       from w before = go (decLt i (w .0)) (decLt (w .0) i)
         where
@@ -131,15 +148,20 @@ module _ (r : OrderRule) (law : Lawful r) (c : Counts) (log : List Event) (ok : 
           late : i < w .0 → i < s .at
           late x = elim (decLt (s .at) i) [
             | yes y ↦ absurd (s .kept i y x a)
-            | no y ↦ elim (ℕ-discrete (s .at) i) [ yes e ↦ absurd (acquire-release (sym (s .acquires) ∙ (ap (operation-at log) e ∙ a))) | no e ↦ omega arith ]
+            | no y ↦ elim (ℕ-discrete (s .at) i) [
+              | yes e ↦ absurd (acquire-release (sym (s .acquires) ∙ (ap (operation-at log) e ∙ a)))
+              | no e ↦ omega arith
+            ]
           ]
 
           go : Dec (i < w .0) → Dec (w .0 < i) → Before r (c .locks) log i j
           go (yes x) d =
-              let to-acquire = before (s .at) (omega (arith, s .before, w .1 .earlier)) (record { first = late x; inside = omega (arith, s .before, w .1 .earlier, h .inside) }) a (s .acquires) in
-              let to-release = thread-edge (record { earlier = record { first = s .before; inside = omega (arith, w .1 .earlier, h .inside) }; one-thread = s .own }) in
+              let first : Earlier log i (s .at) = record { first = late x; inside = omega (arith, s .before, w .1 .earlier, h .inside) } in
+              let to-acquire = before (s .at) (omega (arith, s .before, w .1 .earlier)) first a (s .acquires) in
+              let second : Earlier log (s .at) (w .0) = record { first = s .before; inside = omega (arith, w .1 .earlier, h .inside) } in
+              let to-release = thread-edge (record { earlier = second; one-thread = s .own }) in
               chained (then to-acquire to-release) last
-          go (no x) (yes y) = absurd (w .1 .latest i y (h .first) (ap (r .posts (c .locks)) a ∙ law .release-posts (c .locks) l))
+          go (no x) (yes y) = absurd (w .1 .latest i y (h .first) post)
           go (no x) (no y) = let e : w .0 ≡ i = omega arith in rw e at last
 
   order-1-in : (i j : ℕ) → Edge1 log i j → Before r (c .locks) log i j
@@ -152,26 +174,31 @@ takes-1-is locks (Write v) s e = absurd (none-some e)
 takes-1-is locks (Acquire l) s e = cc
 takes-1-is locks (Release l) s e = absurd (none-some e)
 
-pub takes-2-is : (locks : ℕ) (o : Operation) (s : ℕ) → takes-2 locks o ≡ Some s → (o ≡ Acquire s) ⊎ ((v : ℕ) × (o ≡ Read v) × (s ≡ locks + v))
+pub takes-2-is : (locks : ℕ) (o : Operation) (s : ℕ) → takes-2 locks o ≡ Some s
+    → (o ≡ Acquire s) ⊎ ((v : ℕ) × (o ≡ Read v) × (s ≡ locks + v))
 takes-2-is locks (Read v) s e = inr (v, refl, cc)
 takes-2-is locks (Write v) s e = absurd (none-some e)
 takes-2-is locks (Acquire l) s e = inl (cc)
 takes-2-is locks (Release l) s e = absurd (none-some e)
 
-posts-2-is : (locks : ℕ) (o : Operation) (s : ℕ) → posts-2 locks o ≡ Some s → (o ≡ Release s) ⊎ ((v : ℕ) × (o ≡ Write v) × (s ≡ locks + v))
+posts-2-is : (locks : ℕ) (o : Operation) (s : ℕ) → posts-2 locks o ≡ Some s
+    → (o ≡ Release s) ⊎ ((v : ℕ) × (o ≡ Write v) × (s ≡ locks + v))
 posts-2-is locks (Read v) s e = absurd (none-some e)
 posts-2-is locks (Write v) s e = inr (v, refl, cc)
 posts-2-is locks (Acquire l) s e = absurd (none-some e)
 posts-2-is locks (Release l) s e = inl (cc)
 
-rule-1 : (r : OrderRule) → Lawful r → r .number ≡ 1 → (c : Counts) (log : List Event) → Accepted c log → (i j : ℕ) → Before r (c .locks) log i j ↔ Order1 log i j
+rule-1 : (r : OrderRule) → Lawful r → r .number ≡ 1 → (c : Counts) (log : List Event) → Accepted c log
+    → (i j : ℕ) → Before r (c .locks) log i j ↔ Order1 log i j
 rule-1 r law first c log ok i j = (inside edge i j, inside (order-1-in r law c log ok) i j)
   where
     edge : (i j : ℕ) → Edge r (c .locks) log i j → Order1 log i j
     edge i j (thread-edge e) = one-edge (thread-edge-1 e)
     edge i j (slot-edge s h takes last) =
-        let acquire : operation-at log j ≡ Acquire s = takes-1-is (c .locks) (operation-at log j) s (sym (ap (λ x. x .take) (law .number-1 first (c .locks) (operation-at log j))) ∙ takes) in
-        one-edge (lock-edge s (record { first = last .earlier; inside = h }) (lock-only r law c log ok i s (acquired r law c log ok j s h acquire) (last .holds)) acquire)
+        let o = operation-at log j in
+        let acquire = takes-1-is (c .locks) o s (sym (ap (λ x. x .take) (law .number-1 first (c .locks) o)) ∙ takes) in
+        let release = lock-only r law c log ok i s (acquired r law c log ok j s h acquire) (last .holds) in
+        one-edge (lock-edge s (record { first = last .earlier; inside = h }) release acquire)
 
 module _ (r : OrderRule) (law : Lawful r) (second : r .number ≡ 2) (c : Counts) (log : List Event) (ok : Accepted c log) where
   takes-is : (o : Operation) → r .takes (c .locks) o ≡ takes-2 (c .locks) o
@@ -184,7 +211,8 @@ module _ (r : OrderRule) (law : Lawful r) (second : r .number ≡ 2) (c : Counts
   pub write-only : (q v : ℕ) → q < length log → Posts r (c .locks) log (c .locks + v) q → operation-at log q ≡ Write v
   write-only q v h post = go (posts-2-is (c .locks) (operation-at log q) (c .locks + v) (sym (posts-is (operation-at log q)) ∙ post))
     where
-      go : (operation-at log q ≡ Release (c .locks + v)) ⊎ ((x : ℕ) × (operation-at log q ≡ Write x) × (c .locks + v ≡ c .locks + x)) → operation-at log q ≡ Write v
+      go : (operation-at log q ≡ Release (c .locks + v)) ⊎ ((x : ℕ) × (operation-at log q ≡ Write x) × (c .locks + v ≡ c .locks + x))
+          → operation-at log q ≡ Write v
       go (inl e) = let l : c .locks + v < c .locks = subst (HasObject c) e (ok .inside .object q h) in absurd (omega arith)
       go (inr w) = let z : w .0 ≡ v = omega (arith, w .2) in w .1 ∙ ap Write z
 
@@ -193,7 +221,9 @@ module _ (r : OrderRule) (law : Lawful r) (second : r .number ≡ 2) (c : Counts
   edge-in i j (slot-edge s h takes last) = go (takes-2-is (c .locks) (operation-at log j) s (sym (takes-is (operation-at log j)) ∙ takes))
     where
       go : (operation-at log j ≡ Acquire s) ⊎ ((v : ℕ) × (operation-at log j ≡ Read v) × (s ≡ c .locks + v)) → Order2 log i j
-      go (inl acquire) = one-edge (order-edge (one-edge (lock-edge s (record { first = last .earlier; inside = h }) (lock-only r law c log ok i s (acquired r law c log ok j s h acquire) (last .holds)) acquire)))
+      go (inl acquire) =
+          let release = lock-only r law c log ok i s (acquired r law c log ok j s h acquire) (last .holds) in
+          one-edge (order-edge (one-edge (lock-edge s (record { first = last .earlier; inside = h }) release acquire)))
       go (inr w) = one-edge (write-edge (w .0) h (w .1) (record {
         earlier = last .earlier;
         holds = write-only i (w .0) (omega (arith, last .earlier)) (last .holds ∙ ap Some (w .2));
@@ -202,11 +232,13 @@ module _ (r : OrderRule) (law : Lawful r) (second : r .number ≡ 2) (c : Counts
 
   edge-back : (i j : ℕ) → Edge2 log i j → Before r (c .locks) log i j
   edge-back i j (order-edge b) = inside (order-1-in r law c log ok) i j b
-  edge-back i j (write-edge v h read last) = one-edge (slot-edge (c .locks + v) h (takes-is (operation-at log j) ∙ ap (takes-2 (c .locks)) read) (record {
-    earlier = last .earlier;
-    holds = posts-is (operation-at log i) ∙ ap (posts-2 (c .locks)) (last .holds);
-    latest = λ k a b post. last .latest k a b (write-only k v (omega arith) post);
-  }))
+  edge-back i j (write-edge v h read last) =
+      let takes = takes-is (operation-at log j) ∙ ap (takes-2 (c .locks)) read in
+      one-edge (slot-edge (c .locks + v) h takes (record {
+        earlier = last .earlier;
+        holds = posts-is (operation-at log i) ∙ ap (posts-2 (c .locks)) (last .holds);
+        latest = λ k a b post. last .latest k a b (write-only k v (omega arith) post);
+      }))
 
   rule-2 : (i j : ℕ) → Before r (c .locks) log i j ↔ Order2 log i j
   rule-2 i j = (inside edge-in i j, inside edge-back i j)

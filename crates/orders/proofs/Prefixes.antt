@@ -27,7 +27,8 @@ use Rattle.orders.specs.Theorems.{LaterEventsChangeNothing}
 use Rattle.orders.proofs.Closures.{edge-up, edge-1-up, edge-2-up}
 
 -- a chain that ends below n goes over edge by edge
-kept : {E F : Relation} (n : ℕ) → ((i j : ℕ) → E i j → i ≤ j) → ((i j : ℕ) → j < n → E i j → F i j) → {i j : ℕ} → Closure E i j → j < n → Closure F i j
+kept : {E F : Relation} (n : ℕ) → ((i j : ℕ) → E i j → i ≤ j) → ((i j : ℕ) → j < n → E i j → F i j)
+    → {i j : ℕ} → Closure E i j → j < n → Closure F i j
 kept n up f self h = self
 kept n up f (then {j = j} {k = k} b e) h = then (kept n up f b (omega (arith, up j k e))) (f j k h e)
 
@@ -37,16 +38,20 @@ Shares n log other = (i : ℕ) → i < n → event log i ≡ event other i
 
 pub count-shared : (n : ℕ) (log other : List Event) (t : ℕ) → Shares n log other → count log t n ≡ count other t n
 count-shared zero log other t s = refl
-count-shared (suc n) log other t s = ap₂ (λ (e : Event) (m : ℕ). cond (eqb (e .thread) t) (suc m) m) (s n (omega arith)) (count-shared n log other t (λ i h. s i (omega arith)))
+count-shared (suc n) log other t s = ap₂ (λ (e : Event) (m : ℕ). cond (eqb (e .thread) t) (suc m) m)
+    (s n (omega arith))
+    (count-shared n log other t (λ i h. s i (omega arith)))
 
 pub local-shared : (n : ℕ) (log other : List Event) → Shares n log other → (i : ℕ) → i < n → local log i ≡ local other i
 local-shared n log other s i h =
-    ap (λ (e : Event). count log (e .thread) (suc i)) (s i h) ∙ count-shared (suc i) log other (thread-at other i) (λ k l. s k (omega arith))
+    ap (λ (e : Event). count log (e .thread) (suc i)) (s i h)
+    ∙ count-shared (suc i) log other (thread-at other i) (λ k l. s k (omega arith))
 
 pub holder-shared : (n : ℕ) (log other : List Event) (l : ℕ) → Shares n log other → holder log l n ≡ holder other l n
 holder-shared zero log other l s = refl
-holder-shared (suc n) log other l s =
-    ap₂ (λ (e : Event) (o : Option ℕ). held-after (e .operation) (e .thread) l o) (s n (omega arith)) (holder-shared n log other l (λ i h. s i (omega arith)))
+holder-shared (suc n) log other l s = ap₂ (λ (e : Event) (o : Option ℕ). held-after (e .operation) (e .thread) l o)
+    (s n (omega arith))
+    (holder-shared n log other l (λ i h. s i (omega arith)))
 
 pub after-shared : (r : OrderRule) (c : Counts) (n : ℕ) (log other : List Event) → Shares n log other → after r c log n ≡ after r c other n
 after-shared r c zero log other s = refl
@@ -54,9 +59,11 @@ after-shared r c (suc n) log other s =
     ap₂ (λ (e : Event) (rows : Rows). advanced rows (e .thread) (r .takes (c .locks) (e .operation)) (r .posts (c .locks) (e .operation)))
     (s n (omega arith)) (after-shared r c n log other (λ i h. s i (omega arith)))
 
-pub stamp-shared : (r : OrderRule) (c : Counts) (n : ℕ) (log other : List Event) → Shares n log other → (i : ℕ) → i < n → stamp r c log i ≡ stamp r c other i
-stamp-shared r c n log other s i h =
-    ap₂ (λ (e : Event) (rows : Rows). getD (rows .threads) (e .thread) []) (s i h) (after-shared r c (suc i) log other (λ k l. s k (omega arith)))
+pub stamp-shared : (r : OrderRule) (c : Counts) (n : ℕ) (log other : List Event) → Shares n log other
+    → (i : ℕ) → i < n → stamp r c log i ≡ stamp r c other i
+stamp-shared r c n log other s i h = ap₂ (λ (e : Event) (rows : Rows). getD (rows .threads) (e .thread) [])
+    (s i h)
+    (after-shared r c (suc i) log other (λ k l. s k (omega arith)))
 
 module _ (n : ℕ) (log other : List Event) (s : Shares n log other) (fits : n ≤ length other) where
   thread-kept : (i j : ℕ) → j < n → InThread log i j → InThread other i j
@@ -77,17 +84,21 @@ module _ (n : ℕ) (log other : List Event) (s : Shares n log other) (fits : n �
 
   edge-kept : (r : OrderRule) (locks i j : ℕ) → j < n → Edge r locks log i j → Edge r locks other i j
   edge-kept r locks i j h (thread-edge e) = thread-edge (thread-kept i j h e)
-  edge-kept r locks i j h (slot-edge x inside takes last) =
-      slot-edge x (omega arith) (ap (λ (e : Event). r .takes locks (e .operation)) (sym (s j h)) ∙ takes) (last-kept (λ e. r .posts locks (e .operation) ≡ Some x) i j h last)
+  edge-kept r locks i j h (slot-edge x inside takes last) = slot-edge x (omega arith)
+      (ap (λ (e : Event). r .takes locks (e .operation)) (sym (s j h)) ∙ takes)
+      (last-kept (λ e. r .posts locks (e .operation) ≡ Some x) i j h last)
 
   edge-1-kept : (i j : ℕ) → j < n → Edge1 log i j → Edge1 other i j
   edge-1-kept i j h (thread-edge-1 e) = thread-edge-1 (thread-kept i j h e)
-  edge-1-kept i j h (lock-edge l e release acquire) =
-      lock-edge l (record { first = e .first; inside = omega arith }) (does-kept i (Release l) (omega arith) release) (does-kept j (Acquire l) h acquire)
+  edge-1-kept i j h (lock-edge l e release acquire) = lock-edge l (record { first = e .first; inside = omega arith })
+      (does-kept i (Release l) (omega arith) release)
+      (does-kept j (Acquire l) h acquire)
 
   edge-2-kept : (i j : ℕ) → j < n → Edge2 log i j → Edge2 other i j
   edge-2-kept i j h (order-edge b) = order-edge (kept n (edge-1-up log) edge-1-kept b h)
-  edge-2-kept i j h (write-edge v inside read last) = write-edge v (omega arith) (does-kept j (Read v) h read) (last-kept (λ e. e .operation ≡ Write v) i j h last)
+  edge-2-kept i j h (write-edge v inside read last) = write-edge v (omega arith)
+      (does-kept j (Read v) h read)
+      (last-kept (λ e. e .operation ≡ Write v) i j h last)
 
   pub before-shared : (r : OrderRule) (locks i j : ℕ) → j < n → Before r locks log i j → Before r locks other i j
   before-shared r locks i j h b = kept n (edge-up r locks log) (edge-kept r locks) b h
@@ -101,16 +112,19 @@ module _ (n : ℕ) (log other : List Event) (s : Shares n log other) (fits : n �
 -- two tests that agree below n list the same pairs
 with-shared : (test other : ℕ → Bool) (j n : ℕ) → ((i : ℕ) → i < n → test i ≡ other i) → pairs-with test j n ≡ pairs-with other j n
 with-shared test other j zero s = refl
-with-shared test other j (suc n) s =
-    ap₂ (λ (ps : List PositionPair) (b : Bool). ps ++ cond b (positions n j ∷ []) []) (with-shared test other j n (λ i h. s i (omega arith))) (s n (omega arith))
+with-shared test other j (suc n) s = ap₂ (λ (ps : List PositionPair) (b : Bool). ps ++ cond b (positions n j ∷ []) [])
+    (with-shared test other j n (λ i h. s i (omega arith)))
+    (s n (omega arith))
 
-pub below-shared : (test other : ℕ → ℕ → Bool) (n : ℕ) → ((i j : ℕ) → i < j → j < n → test i j ≡ other i j) → pairs-below test n ≡ pairs-below other n
+pub below-shared : (test other : ℕ → ℕ → Bool) (n : ℕ) → ((i j : ℕ) → i < j → j < n → test i j ≡ other i j)
+    → pairs-below test n ≡ pairs-below other n
 below-shared test other zero s = refl
-below-shared test other (suc n) s =
-    ap₂ (λ (ps qs : List PositionPair). ps ++ qs) (below-shared test other n (λ i j a b. s i j a (omega arith)))
+below-shared test other (suc n) s = ap₂ (λ (ps qs : List PositionPair). ps ++ qs)
+    (below-shared test other n (λ i j a b. s i j a (omega arith)))
     (with-shared (λ i. test i n) (λ i. other i n) n n (λ i h. s i n h (omega arith)))
 
-pub unseen-shared : (r : OrderRule) (c : Counts) (n : ℕ) (log other : List Event) → Shares n log other → (i j : ℕ) → i < j → j < n → unseen r c log i j ≡ unseen r c other i j
+pub unseen-shared : (r : OrderRule) (c : Counts) (n : ℕ) (log other : List Event) → Shares n log other
+    → (i j : ℕ) → i < j → j < n → unseen r c log i j ≡ unseen r c other i j
 unseen-shared r c n log other s i j a b =
     ap₂ (λ (e d : Event). conflicts e d && ltb (getD (stamp r c log j) (e .thread) 0) (local log i)) (s i (omega arith)) (s j b)
     ∙ ap₂ (λ (row : List ℕ) (v : ℕ). conflicts (event other i) (event other j) && ltb (getD row (thread-at other i) 0) v)
@@ -118,10 +132,15 @@ unseen-shared r c n log other s i j a b =
 
 -- pairs below a later position begin with those below an earlier one
 rest-of : (test : ℕ → ℕ → Bool) (n m : ℕ) → n ≤ m → (ps : List PositionPair) × (pairs-below test m ≡ pairs-below test n ++ ps)
-rest-of test n m h = le-ind (λ k. (ps : List PositionPair) × (pairs-below test k ≡ pairs-below test n ++ ps)) ([], sym (append-nil (pairs-below test n))) more m h
+rest-of test n m h = le-ind (λ k. (ps : List PositionPair) × (pairs-below test k ≡ pairs-below test n ++ ps))
+    ([], sym (append-nil (pairs-below test n)))
+    more m h
   where
-    more : (k : ℕ) → n ≤ k → (ps : List PositionPair) × (pairs-below test k ≡ pairs-below test n ++ ps) → (ps : List PositionPair) × (pairs-below test (suc k) ≡ pairs-below test n ++ ps)
-    more k l w = (w .0 ++ pairs-with (λ i. test i k) k k, ap (λ ps. ps ++ pairs-with (λ i. test i k) k k) (w .1) ∙ append-assoc (pairs-below test n) (w .0) _)
+    more : (k : ℕ) → n ≤ k → (ps : List PositionPair) × (pairs-below test k ≡ pairs-below test n ++ ps)
+        → (ps : List PositionPair) × (pairs-below test (suc k) ≡ pairs-below test n ++ ps)
+    more k l w =
+        let new = pairs-with (λ i. test i k) k k in
+        (w .0 ++ new, ap (λ ps. ps ++ new) (w .1) ∙ append-assoc (pairs-below test n) (w .0) _)
 
 module _ (log more : List Event) where
   shares : Shares (length log) (log ++ more) log
@@ -139,27 +158,44 @@ module _ (log more : List Event) where
       thread = λ i h. subst (λ (e : Event). e .thread < c .threads) (shares i h) (ok .inside .thread i (omega (arith, long)));
       object = λ i h. subst (λ (e : Event). HasObject c (e .operation)) (shares i h) (ok .inside .object i (omega (arith, long)));
     };
-    free = λ i l h is. sym (holder-shared i (log ++ more) log l (λ k g. shares k (omega arith))) ∙ ok .free i l (omega (arith, long)) (ap (λ (e : Event). e .operation) (shares i h) ∙ is);
-    own = λ i l h is. sym (holder-shared i (log ++ more) log l (λ k g. shares k (omega arith))) ∙ (ok .own i l (omega (arith, long)) (ap (λ (e : Event). e .operation) (shares i h) ∙ is) ∙ ap (λ (e : Event). Some (e .thread)) (shares i h));
+    free = λ i l h is. held i l h ∙ ok .free i l (omega (arith, long)) (does i h ∙ is);
+    own = λ i l h is. held i l h ∙ (ok .own i l (omega (arith, long)) (does i h ∙ is) ∙ ap (λ (e : Event). Some (e .thread)) (shares i h));
   }
+    where
+      held : (i l : ℕ) → i < length log → holder log l i ≡ holder (log ++ more) l i
+      held i l h = sym (holder-shared i (log ++ more) log l (λ k g. shares k (omega arith)))
+
+      does : (i : ℕ) → i < length log → event (log ++ more) i .operation ≡ event log i .operation
+      does i h = ap (λ (e : Event). e .operation) (shares i h)
 
   pairs-begin : (r : OrderRule) (c : Counts) → take (length (found r c log)) (found r c (log ++ more)) ≡ found r c log
   pairs-begin r c =
-      ap (take (length (found r c log))) whole
-      ∙ (take-append-le (length (found r c log)) (found r c log) _ (omega arith) ∙ take-all (length (found r c log)) (found r c log) (omega arith))
+      let ps = found r c log in
+      ap (take (length ps)) whole ∙ (take-append-le (length ps) ps _ (omega arith) ∙ take-all (length ps) ps (omega arith))
     where
       w : (ps : List PositionPair) × (found r c (log ++ more) ≡ pairs-below (unseen r c (log ++ more)) (length log) ++ ps)
       w = rest-of (unseen r c (log ++ more)) (length log) (length (log ++ more)) long
 
       whole : found r c (log ++ more) ≡ found r c log ++ w .0
-      whole = w .1 ∙ ap (λ ps. ps ++ w .0) (below-shared (unseen r c (log ++ more)) (unseen r c log) (length log) (unseen-shared r c (length log) (log ++ more) log shares))
+      whole =
+          let same = unseen-shared r c (length log) (log ++ more) log shares in
+          w .1 ∙ ap (λ ps. ps ++ w .0) (below-shared (unseen r c (log ++ more)) (unseen r c log) (length log) same)
 
   pub later-events : LaterEventsChangeNothing log more
   later-events = record {
     local-time = local-shared (length log) (log ++ more) log shares;
-    rule = λ r locks i j h. (before-shared (length log) (log ++ more) log shares (omega arith) r locks i j h, before-shared (length log) log (log ++ more) back long r locks i j h);
-    order-1 = λ i j h. (order-1-shared (length log) (log ++ more) log shares (omega arith) i j h, order-1-shared (length log) log (log ++ more) back long i j h);
-    order-2 = λ i j h. (order-2-shared (length log) (log ++ more) log shares (omega arith) i j h, order-2-shared (length log) log (log ++ more) back long i j h);
+    rule = λ r locks i j h. (
+      before-shared (length log) (log ++ more) log shares (omega arith) r locks i j h,
+      before-shared (length log) log (log ++ more) back long r locks i j h,
+    );
+    order-1 = λ i j h. (
+      order-1-shared (length log) (log ++ more) log shares (omega arith) i j h,
+      order-1-shared (length log) log (log ++ more) back long i j h,
+    );
+    order-2 = λ i j h. (
+      order-2-shared (length log) (log ++ more) log shares (omega arith) i j h,
+      order-2-shared (length log) log (log ++ more) back long i j h,
+    );
     stamps = λ r c. stamp-shared r c (length log) (log ++ more) log shares;
     pairs = pairs-begin;
     accepted = accepted-before;

@@ -74,28 +74,43 @@ module _ (r : OrderRule) (locks : ℕ) (log : List Event) where
 
   from-thread : (n : ℕ) → n < length log → (j : ℕ) → Grown n j → Before r locks log j n
   from-thread n h j (inl e) = subst (λ k. Before r locks log j k) e self
-  from-thread n h j (inr k) = then (k .before) (thread-edge (record { earlier = record { first = k .below; inside = h }; one-thread = k .own }))
+  from-thread n h j (inr k) =
+      then (k .before) (thread-edge (record { earlier = record { first = k .below; inside = h }; one-thread = k .own }))
 
-  grown-right : (n k : ℕ) (row : List ℕ) → n < length log → thread-at log n < k → length row ≡ k → ((t : ℕ) → t < k → Largest log (Known (thread-at log n) n) t (getD row t 0))
+  grown-right : (n k : ℕ) (row : List ℕ) → n < length log → thread-at log n < k → length row ≡ k
+      → ((t : ℕ) → t < k → Largest log (Known (thread-at log n) n) t (getD row t 0))
       → (t : ℕ) → t < k → Largest log (Grown n) t (getD (grown row (thread-at log n)) t 0)
   grown-right n k row h inside long l t below = go (ℕ-discrete t (thread-at log n))
     where
       mine : local log n ≡ getD row (thread-at log n) 0 + 1
-      mine = omega (arith, local-is log (thread-at log n) n refl, own-entry (thread-at log n) n (getD row (thread-at log n) 0) (omega arith) (l (thread-at log n) inside))
+      mine =
+          let u = thread-at log n in
+          omega (arith, local-is log u n refl, own-entry u n (getD row u 0) (omega arith) (l u inside))
 
       go : Dec (t ≡ thread-at log n) → Largest log (Grown n) t (getD (grown row (thread-at log n)) t 0)
       go (no other) = largest-as (sym (getD-set-other row (thread-at log n) t _ 0 other)) (record {
         bound = λ j m own. elim m [ inl e ↦ absurd (other (sym own ∙ ap (thread-at log) e)) | inr k ↦ l t below .bound j k own ];
-        met = elim (l t below .met) [ inl z ↦ inl z | inr w ↦ inr (record { at = w .at; member = inr (w .member); own = w .own; time = w .time }) ];
+        met = elim (l t below .met) [
+          | inl z ↦ inl z
+          | inr w ↦ inr (record { at = w .at; member = inr (w .member); own = w .own; time = w .time })
+        ];
       })
-      go (yes e) = largest-as (mine ∙ sym (ap (λ x. getD (grown row (thread-at log n)) x 0) e ∙ getD-set-same row (thread-at log n) _ 0 (omega arith))) (record {
-        bound = λ j m own. elim m [ inl is ↦ omega (arith, ap (local log) is) | inr k ↦ omega (arith, mine, l (thread-at log n) inside .bound j k (own ∙ e)) ];
-        met = inr (record { at = n; member = inl refl; own = sym e; time = refl });
-      })
+      go (yes e) =
+          let u = thread-at log n in
+          let now = grown row u in
+          let there : getD now t 0 ≡ getD row u 0 + 1 = ap (λ x. getD now x 0) e ∙ getD-set-same row u _ 0 (omega arith) in
+          largest-as (mine ∙ sym there) (record {
+            bound = λ j m own. elim m [
+              | inl is ↦ omega (arith, ap (local log) is)
+              | inr k ↦ omega (arith, mine, l u inside .bound j k (own ∙ e))
+            ];
+            met = inr (record { at = n; member = inl refl; own = sym e; time = refl });
+          })
 
-  joined-right : (n k : ℕ) (row : List ℕ) (slots : List (List ℕ)) (take : Option ℕ) → n < length log → r .takes locks (operation-at log n) ≡ take
-      → length row ≡ k → ((s : ℕ) → take ≡ Some s → length (getD slots s []) ≡ k)
-      → ((t : ℕ) → t < k → Largest log (Grown n) t (getD row t 0)) → ((s t : ℕ) → take ≡ Some s → t < k → Largest log (Held s n) t (entry slots s t))
+  joined-right : (n k : ℕ) (row : List ℕ) (slots : List (List ℕ)) (take : Option ℕ) → n < length log
+      → r .takes locks (operation-at log n) ≡ take → length row ≡ k → ((s : ℕ) → take ≡ Some s → length (getD slots s []) ≡ k)
+      → ((t : ℕ) → t < k → Largest log (Grown n) t (getD row t 0))
+      → ((s t : ℕ) → take ≡ Some s → t < k → Largest log (Held s n) t (entry slots s t))
       → (t : ℕ) → t < k → Time (Before r locks log) log n t (getD (joined slots take row) t 0)
   joined-right n k row slots None h e long wide l m t below = largest-same (from-thread n h) (λ j b. out (parted b)) (l t below)
     where
@@ -104,20 +119,26 @@ module _ (r : OrderRule) (locks : ℕ) (log : List Event) where
       out (inr w) = absurd (none-some (sym e ∙ w .takes))
   joined-right n k row slots (Some s) h e long wide l m t below =
       largest-as (sym (getD-larger row (getD slots s []) t 0 (omega arith) (omega (arith, wide s refl))))
-      (largest-both (from-thread n h) (λ j w. then (w .before) (slot-edge s h e (w .last))) (λ j b. out (parted b)) (l t below) (m s t refl below))
+      (largest-both (from-thread n h) from-slot (λ j b. out (parted b)) (l t below) (m s t refl below))
     where
+      from-slot : (j : ℕ) → Held s n j → Before r locks log j n
+      from-slot j w = then (w .before) (slot-edge s h e (w .last))
+
       out : {j : ℕ} → Grown n j ⊎ Taken n j → Grown n j ⊎ Held s n j
       out (inl g) = inl g
       out {j} (inr w) = inr (subst (λ x. Held x n j) (cc (w .takes)) (w .held))
 
   -- a thread's row once the event at n has its new row
-  row-step : (n : ℕ) (rows : List (List ℕ)) (row : List ℕ) (u t : ℕ) → n < length log → u < length rows → Time (Before r locks log) log n t (getD row t 0)
-      → Largest log (Known u n) t (entry rows u t) → Largest log (Known u (suc n)) t (entry (set rows (thread-at log n) row) u t)
+  row-step : (n : ℕ) (rows : List (List ℕ)) (row : List ℕ) (u t : ℕ) → n < length log → u < length rows
+      → Time (Before r locks log) log n t (getD row t 0) → Largest log (Known u n) t (entry rows u t)
+      → Largest log (Known u (suc n)) t (entry (set rows (thread-at log n) row) u t)
   row-step n rows row u t h inside new old = go (ℕ-discrete u (thread-at log n))
     where
       go : Dec (u ≡ thread-at log n) → Largest log (Known u (suc n)) t (entry (set rows (thread-at log n) row) u t)
       go (yes e) =
-          largest-as (ap (λ x. getD x t 0) (sym (ap (λ x. getD (set rows (thread-at log n) row) x []) e ∙ getD-set-same rows (thread-at log n) row [] (omega arith))))
+          let now = set rows (thread-at log n) row in
+          let there : getD now u [] ≡ row = ap (λ x. getD now x []) e ∙ getD-set-same rows (thread-at log n) row [] (omega arith) in
+          largest-as (ap (λ x. getD x t 0) (sym there))
           (largest-same (λ j b. record { at = n; below = omega arith; own = sym e; before = b }) back new)
         where
           back : (j : ℕ) → Known u (suc n) j → Before r locks log j n
@@ -140,21 +161,41 @@ module _ (r : OrderRule) (locks : ℕ) (log : List Event) where
   slot-kept n s t v other l = largest-same forth back l
     where
       late : (q k : ℕ) → Last (Posts r locks log s) q n → q < k → k < suc n → Posts r locks log s k → ⊥
-      late q k last a b post = elim (decLt k n) [ yes h ↦ last .latest k (omega arith) (omega arith) post | no h ↦ let z : k ≡ n = omega arith in other (rw z at post) ]
+      late q k last a b post = elim (decLt k n) [
+        | yes h ↦ last .latest k (omega arith) (omega arith) post
+        | no h ↦ let z : k ≡ n = omega arith in other (rw z at post)
+      ]
 
       forth : (j : ℕ) → Held s n j → Held s (suc n) j
-      forth j h = record { at = h .at; last = record { earlier = omega (arith, h .last .earlier); holds = h .last .holds; latest = λ k a b p. late (h .at) k (h .last) a b p }; before = h .before }
+      forth j h = record {
+        at = h .at;
+        last = record {
+          earlier = omega (arith, h .last .earlier);
+          holds = h .last .holds;
+          latest = λ k a b p. late (h .at) k (h .last) a b p;
+        };
+        before = h .before;
+      }
 
       back : (j : ℕ) → Held s (suc n) j → Held s n j
       back j h = elim (decLt (h .at) n) [
-        | yes a ↦ record { at = h .at; last = record { earlier = a; holds = h .last .holds; latest = λ k b d p. h .last .latest k (omega arith) (omega arith) p }; before = h .before }
+        | yes a ↦ record {
+          at = h .at;
+          last = record {
+            earlier = a;
+            holds = h .last .holds;
+            latest = λ k b d p. h .last .latest k (omega arith) (omega arith) p;
+          };
+          before = h .before;
+        }
         | no a ↦ let z : h .at ≡ n = omega (arith, h .last .earlier) in absurd (other (rw z at (h .last .holds)))
       ]
 
   -- a slot that it posts to
   slot-posted : (n s t v : ℕ) → Posts r locks log s n → Time (Before r locks log) log n t v → Largest log (Held s (suc n)) t v
   slot-posted n s t v post l =
-      largest-same (λ j b. record { at = n; last = record { earlier = omega arith; holds = post; latest = λ k a c p. omega arith }; before = b }) back l
+      let last : Last (Posts r locks log s) n (suc n) = record { earlier = omega arith; holds = post; latest = λ k a c p. omega arith } in
+      largest-same (λ j b. record { at = n; last = last; before = b }) back l
     where
       back : (j : ℕ) → Held s (suc n) j → Before r locks log j n
       back j h = elim (decLt (h .at) n) [
@@ -162,8 +203,10 @@ module _ (r : OrderRule) (locks : ℕ) (log : List Event) where
         | no a ↦ let z : h .at ≡ n = omega (arith, h .last .earlier) in rw z at (h .before)
       ]
 
-  slot-step : (n : ℕ) (slots : List (List ℕ)) (row : List ℕ) (post : Option ℕ) (s t : ℕ) → r .posts locks (operation-at log n) ≡ post → s < length slots
-      → Time (Before r locks log) log n t (getD row t 0) → Largest log (Held s n) t (entry slots s t) → Largest log (Held s (suc n)) t (entry (posted slots post row) s t)
+  slot-step : (n : ℕ) (slots : List (List ℕ)) (row : List ℕ) (post : Option ℕ) (s t : ℕ)
+      → r .posts locks (operation-at log n) ≡ post → s < length slots
+      → Time (Before r locks log) log n t (getD row t 0) → Largest log (Held s n) t (entry slots s t)
+      → Largest log (Held s (suc n)) t (entry (posted slots post row) s t)
   slot-step n slots row None s t e inside new old = slot-kept n s t (entry slots s t) (λ p. none-some (sym e ∙ p)) old
   slot-step n slots row (Some x) s t e inside new old = go (ℕ-discrete s x)
     where
@@ -180,27 +223,35 @@ module _ (r : OrderRule) (law : Lawful r) (c : Counts) (log : List Event) (insid
   pub record Right (n : ℕ) (rows : Rows) : Type 0 where
     pub sized : Sized (c .threads) (c .locks + c .variables) rows
     pub knows : (u t : ℕ) → u < c .threads → t < c .threads → Largest log (Known r (c .locks) log u n) t (entry (rows .threads) u t)
-    pub holds : (s t : ℕ) → s < c .locks + c .variables → t < c .threads → Largest log (Held r (c .locks) log s n) t (entry (rows .slots) s t)
+    pub holds : (s t : ℕ) → s < c .locks + c .variables → t < c .threads
+        → Largest log (Held r (c .locks) log s n) t (entry (rows .slots) s t)
 
   fresh-right : Right 0 (fresh (c .threads) (c .locks + c .variables))
   fresh-right = record {
     sized = fresh-sized (c .threads) (c .locks + c .variables);
-    knows = λ u t a b. largest-as (sym (fresh-entry (c .threads) (c .threads) u t a b)) (largest-none (λ j w. absurd (omega (arith, w .below))) t);
-    holds = λ s t a b. largest-as (sym (fresh-entry (c .threads) (c .locks + c .variables) s t a b)) (largest-none (λ j w. absurd (omega (arith, w .last .earlier))) t);
+    knows = λ u t a b. largest-as (sym (fresh-entry (c .threads) (c .threads) u t a b))
+        (largest-none (λ j w. absurd (omega (arith, w .below))) t);
+    holds = λ s t a b. largest-as (sym (fresh-entry (c .threads) (c .locks + c .variables) s t a b))
+        (largest-none (λ j w. absurd (omega (arith, w .last .earlier))) t);
   }
 
   -- the new row of the event's thread
-  new-right : (n : ℕ) (rows : Rows) → n < length log → Right n rows
-      → (t : ℕ) → t < c .threads → Time (Before r (c .locks) log) log n t (getD (new-row rows (thread-at log n) (r .takes (c .locks) (operation-at log n))) t 0)
-  new-right n rows h w =
-      joined-right r (c .locks) log n (c .threads) (grown (getD (rows .threads) u []) u) (rows .slots) (r .takes (c .locks) (operation-at log n)) h refl
-      (length-set (getD (rows .threads) u []) u _ ∙ w .sized .thread-row u own)
+  new-right : (n : ℕ) (rows : Rows) → n < length log → Right n rows → (t : ℕ) → t < c .threads
+      → Time (Before r (c .locks) log) log n t (getD (new-row rows (thread-at log n) (r .takes (c .locks) (operation-at log n))) t 0)
+  new-right n rows h w = joined-right r (c .locks) log n (c .threads) (grown old u) (rows .slots) take h refl
+      (length-set old u _ ∙ w .sized .thread-row u own)
       (λ s e. w .sized .slot-row s (slot s e))
-      (grown-right r (c .locks) log n (c .threads) (getD (rows .threads) u []) h own (w .sized .thread-row u own) (λ t below. w .knows u t own below))
+      (grown-right r (c .locks) log n (c .threads) old h own (w .sized .thread-row u own) (λ t below. w .knows u t own below))
       (λ s t e below. w .holds s t (slot s e) below)
     where
       u : ℕ
       u = thread-at log n
+
+      old : List ℕ
+      old = getD (rows .threads) u []
+
+      take : Option ℕ
+      take = r .takes (c .locks) (operation-at log n)
 
       own : thread-at log n < c .threads
       own = inside .thread n h
@@ -208,12 +259,14 @@ module _ (r : OrderRule) (law : Lawful r) (c : Counts) (log : List Event) (insid
       slot : (s : ℕ) → r .takes (c .locks) (operation-at log n) ≡ Some s → s < c .locks + c .variables
       slot s e = takes-inside r law c (operation-at log n) s (inside .object n h) e
 
-  step-right : (n : ℕ) (rows : Rows) → n < length log → Right n rows
-      → Right (suc n) (advanced rows (thread-at log n) (r .takes (c .locks) (operation-at log n)) (r .posts (c .locks) (operation-at log n)))
+  step-right : (n : ℕ) (rows : Rows) → n < length log → Right n rows → Right (suc n)
+      (advanced rows (thread-at log n) (r .takes (c .locks) (operation-at log n)) (r .posts (c .locks) (operation-at log n)))
   step-right n rows h w = record {
     sized = advanced-sized (c .threads) (c .locks + c .variables) rows (thread-at log n) _ _ (w .sized) (inside .thread n h);
-    knows = λ u t a b. row-step r (c .locks) log n (rows .threads) row u t h (omega (arith, w .sized .threads)) (new-right n rows h w t b) (w .knows u t a b);
-    holds = λ s t a b. slot-step r (c .locks) log n (rows .slots) row _ s t refl (omega (arith, w .sized .slots)) (new-right n rows h w t b) (w .holds s t a b);
+    knows = λ u t a b. row-step r (c .locks) log n (rows .threads) row u t h (omega (arith, w .sized .threads))
+        (new-right n rows h w t b) (w .knows u t a b);
+    holds = λ s t a b. slot-step r (c .locks) log n (rows .slots) row _ s t refl (omega (arith, w .sized .slots))
+        (new-right n rows h w t b) (w .holds s t a b);
   }
     where
       row : List ℕ
@@ -224,14 +277,17 @@ module _ (r : OrderRule) (law : Lawful r) (c : Counts) (log : List Event) (insid
   after-right (suc n) h = step-right n (after r c log n) (omega arith) (after-right n (omega arith))
 
   -- the stamp of an event is its thread's new row
-  pub stamp-is : (i : ℕ) → i < length log → stamp r c log i ≡ new-row (after r c log i) (thread-at log i) (r .takes (c .locks) (operation-at log i))
-  stamp-is i h = getD-set-same (after r c log i .threads) (thread-at log i) _ [] (omega (arith, after-right i (omega arith) .sized .threads, inside .thread i h))
+  pub stamp-is : (i : ℕ) → i < length log
+      → stamp r c log i ≡ new-row (after r c log i) (thread-at log i) (r .takes (c .locks) (operation-at log i))
+  stamp-is i h = getD-set-same (after r c log i .threads) (thread-at log i) _ []
+      (omega (arith, after-right i (omega arith) .sized .threads, inside .thread i h))
 
   pub stamp-long : (i : ℕ) → i < length log → length (stamp r c log i) ≡ c .threads
   stamp-long i h = after-right (suc i) h .sized .thread-row (thread-at log i) (inside .thread i h)
 
   pub stamp-time : (i t : ℕ) → i < length log → t < c .threads → Time (Before r (c .locks) log) log i t (getD (stamp r c log i) t 0)
-  stamp-time i t h below = largest-as (ap (λ row. getD row t 0) (sym (stamp-is i h))) (new-right i (after r c log i) h (after-right i (omega arith)) t below)
+  stamp-time i t h below = largest-as (ap (λ row. getD row t 0) (sym (stamp-is i h)))
+      (new-right i (after r c log i) h (after-right i (omega arith)) t below)
 
 -- times tell an order that contains the order of each thread's events
 pub told : (B : Relation) (log : List Event) → Preorder B → ((i j : ℕ) → B i j → i ≤ j) → Contains B (InThread log) → ToldByTimes B log
@@ -244,19 +300,22 @@ told B log order up threads i j v inside below time = (λ b. time .bound i b ref
         go : Dec (i < w .at) → Dec (w .at < i) → B i j
         go (yes a) d =
             let l : w .at < length log = omega (arith, up (w .at) j (w .member)) in
-            order .transitive i (w .at) j (threads i (w .at) (record { earlier = record { first = a; inside = l }; one-thread = sym (w .own) })) (w .member)
+            let e : InThread log i (w .at) = record { earlier = record { first = a; inside = l }; one-thread = sym (w .own) } in
+            order .transitive i (w .at) j (threads i (w .at) e) (w .member)
         go (no a) (yes b) = absurd (omega (arith, w .time, local-less log (thread-at log i) (w .at) i (w .own) refl b))
         go (no a) (no b) = let z : w .at ≡ i = omega arith in rw z at (w .member)
 
 -- times tell a rule's order
 pub rule-told : (r : OrderRule) (locks : ℕ) (log : List Event) → ToldByTimes (Before r locks log) log
-rule-told r locks log = told (Before r locks log) log (closure-order _) (λ i j b. upwards (edge-up r locks log) b) (λ i j e. one-edge (thread-edge e))
+rule-told r locks log = told (Before r locks log) log (closure-order _)
+    (λ i j b. upwards (edge-up r locks log) b) (λ i j e. one-edge (thread-edge e))
 
 pub stamps-are-times : (R : Relation) → StampsAreTimes R
 stamps-are-times R = record {
   times = stamp-time;
   rule = rule-told;
   order-1 = λ log. told (Order1 log) log (closure-order _) (λ i j b. upwards (edge-1-up log) b) (λ i j e. one-edge (thread-edge-1 e));
-  order-2 = λ log. told (Order2 log) log (closure-order _) (λ i j b. upwards (edge-2-up log) b) (λ i j e. one-edge (order-edge (one-edge (thread-edge-1 e))));
+  order-2 = λ log. told (Order2 log) log (closure-order _) (λ i j b. upwards (edge-2-up log) b)
+      (λ i j e. one-edge (order-edge (one-edge (thread-edge-1 e))));
   one = λ log i t v w a b. largest-one a b;
 }

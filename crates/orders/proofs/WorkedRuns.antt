@@ -84,7 +84,8 @@ accepted-by c log all = record {
   own = λ i l h is. held-tells (thread-at log i) (holder log l i) (and-parts _ _ (at i h is) .1);
 }
   where
-    parts : (i : ℕ) → i < length log → (ltb (thread-at log i) (c .threads) ≡ true) × (allowed c (thread-at log i) (λ l. holder log l i) (operation-at log i) ≡ true)
+    parts : (i : ℕ) → i < length log
+        → (ltb (thread-at log i) (c .threads) ≡ true) × (allowed c (thread-at log i) (λ l. holder log l i) (operation-at log i) ≡ true)
     parts i h = and-parts _ _ (below-tells (allowed-at c log) (length log) all i h)
 
     at : {o : Operation} (i : ℕ) → i < length log → operation-at log i ≡ o → allowed c (thread-at log i) (λ l. holder log l i) o ≡ true
@@ -99,18 +100,20 @@ inside-all log [] = true
 inside-all log (x ∷ xs) = ltb (x .at) (length log) && inside-all log xs
 
 -- the order that a rule means gives what the rule's clocks tell
-module _ (r : OrderRule) (law : Lawful r) (c : Counts) (log : List Event) (inside : Inside c log) (B : Relation) (means : (i j : ℕ) → Before r (c .locks) log i j ↔ B i j) where
+module _ (r : OrderRule) (law : Lawful r) (c : Counts) (log : List Event) (inside : Inside c log)
+    (B : Relation) (means : (i j : ℕ) → Before r (c .locks) log i j ↔ B i j) where
   timed : (xs : List Stamp) → inside-all log xs ≡ true → map (λ x. stamped (x .at) (stamp r c log (x .at))) xs ≡ xs → All (Timed c B log) xs
   timed [] all same = tt
   timed (x ∷ xs) all same =
       let time : stamp r c log (x .at) ≡ x .time = cc in
       let rest : map (λ y. stamped (y .at) (stamp r c log (y .at))) xs ≡ xs = cc in
-      let parts = and-parts _ _ all in (
+      let parts = and-parts _ _ all in
+      let within = ltb-true (x .at) (length log) (parts .0) in (
         record {
-          inside = ltb-true (x .at) (length log) (parts .0);
-          whole = ap length (sym time) ∙ stamp-long r law c log inside (x .at) (ltb-true (x .at) (length log) (parts .0));
+          inside = within;
+          whole = ap length (sym time) ∙ stamp-long r law c log inside (x .at) within;
           times = λ t h. subst (λ row. Time B log (x .at) t (getD row t 0)) time
-              (largest-same (λ j b. means j (x .at) .0 b) (λ j b. means j (x .at) .1 b) (stamp-time r law c log inside (x .at) t (ltb-true (x .at) (length log) (parts .0)) h));
+              (largest-same (λ j b. means j (x .at) .0 b) (λ j b. means j (x .at) .1 b) (stamp-time r law c log inside (x .at) t within h));
         },
         timed xs (parts .1) rest,
       )
@@ -138,11 +141,14 @@ module _ (r : OrderRule) (law : Lawful r) (c : Counts) (log : List Event) (insid
 
 -- the run with what clocks tell in the place of what it states
 abbrev recomputed : Run → Run
-recomputed x = run (x .counts) (x .log) (by-clocks happens-before (x .counts) (x .log) (x .order-1)) (by-clocks schedulable (x .counts) (x .log) (x .order-2))
+recomputed x = run (x .counts) (x .log)
+    (by-clocks happens-before (x .counts) (x .log) (x .order-1))
+    (by-clocks schedulable (x .counts) (x .log) (x .order-2))
 
 -- the trace is accepted, and times are stated of positions
 abbrev sensible : Run → Bool
-sensible x = below (allowed-at (x .counts) (x .log)) (length (x .log)) && (inside-all (x .log) (x .order-1 .times) && inside-all (x .log) (x .order-2 .times))
+sensible x = below (allowed-at (x .counts) (x .log)) (length (x .log))
+    && (inside-all (x .log) (x .order-1 .times) && inside-all (x .log) (x .order-2 .times))
 
 abbrev all-sensible : List Run → Bool
 all-sensible [] = true
@@ -156,9 +162,11 @@ run-holds x is same =
     record {
       accepted = ok;
       order-1 = gives happens-before happens-before-lawful (x .counts) (x .log) (ok .inside) (Order1 (x .log))
-          (rules-mean-orders .rule-1 happens-before happens-before-lawful refl (x .counts) (x .log) ok) (x .order-1) (times .0) (ap (λ y. y .order-1) same);
+          (rules-mean-orders .rule-1 happens-before happens-before-lawful refl (x .counts) (x .log) ok)
+          (x .order-1) (times .0) (ap (λ y. y .order-1) same);
       order-2 = gives schedulable schedulable-lawful (x .counts) (x .log) (ok .inside) (Order2 (x .log))
-          (rules-mean-orders .rule-2 schedulable schedulable-lawful refl (x .counts) (x .log) ok) (x .order-2) (times .1) (ap (λ y. y .order-2) same);
+          (rules-mean-orders .rule-2 schedulable schedulable-lawful refl (x .counts) (x .log) ok)
+          (x .order-2) (times .1) (ap (λ y. y .order-2) same);
     }
 
 all-hold : (xs : List Run) → all-sensible xs ≡ true → map recomputed xs ≡ xs → All Holds xs

@@ -62,12 +62,17 @@ SameEvents log other p q =
     (Same log other (p .earlier) (q .earlier) × Same log other (p .later) (q .later))
     ⊎ (Same log other (p .earlier) (q .later) × Same log other (p .later) (q .earlier))
 
--- under the order B of one trace and the order C of the other, the same events are related, times are equal,
--- and the lists have the same pairs of events and equal totals
+-- each pair of one list is of the same two events as a pair of the other
+abbrev pub InOther : List Event → List Event → List PositionPair → List PositionPair → Type 0
+InOther log other ps qs = (p : PositionPair) → List·Memᴰ p ps → (q : PositionPair) × List·Memᴰ q qs × SameEvents log other p q
+
+-- the traces have the same events; under the order B of the one and the order C of the other the same events are
+-- related, times are equal, and the lists have the same pairs of events and equal totals
 pub record Agree (log other : List Event) (B C : Relation) : Type 0 where
+  pub there : (i : ℕ) → i < length log → (k : ℕ) × Same log other i k
+  pub here : (k : ℕ) → k < length other → (i : ℕ) × Same log other i k
   pub order : (i j k l : ℕ) → Same log other i k → Same log other j l → B i j ↔ C k l
   pub times : (i k t v : ℕ) → Same log other i k → Time B log i t v ↔ Time C other k t v
   pub pairs : (i j k l : ℕ) → Same log other i k → Same log other j l → Pair B log i j ↔ Pair C other k l
-  pub listed : (ps qs : List PositionPair) → Lists B log ps → Lists C other qs → (p : PositionPair) → List·Memᴰ p ps →
-      (q : PositionPair) × List·Memᴰ q qs × SameEvents log other p q
+  pub lists : (ps qs : List PositionPair) → Lists B log ps → Lists C other qs → InOther log other ps qs × InOther other log qs ps
   pub totals : (m n : ℕ) → Total B log m → Total C other n → m ≡ n

@@ -81,7 +81,8 @@ pub data Edge2 (log : List Event) (i j : ℕ) : Type 0 where
 abbrev pub Order2 : List Event → Relation
 Order2 log = Closure (Edge2 log)
 
--- B is the smallest partial order that contains E, as far as R is concerned
+-- B is a partial order that contains E, and is inside R if R is reflexive, transitive and contains E; if this holds for
+-- every R, then B is the smallest partial order that contains E
 pub record Smallest (E B R : Relation) : Type 0 where
   pub order : PartialOrder B
   pub contains : Contains B E
