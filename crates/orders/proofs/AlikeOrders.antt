@@ -103,6 +103,13 @@ no-takes zero s h takes = none-some takes
 no-takes (suc zero) s h takes = none-some takes
 no-takes (suc (suc i)) s h takes = omega arith
 
+-- the read finds the write in run B, and none in the other order
+told-apart : Alike2 (run-b .log) turned-b → ⊥
+told-apart a =
+    let read : Same (run-b .log) turned-b 1 0 = record { left = omega arith; right = omega arith; name = record { thread = refl; time = refl } } in
+    let write : Last (Performs (run-b .log) (Write 0)) 0 1 = record { earlier = omega arith; holds = refl; latest = λ k b c p. omega arith } in
+    omega (arith, a .reads 1 0 0 read refl .forth 0 write .last .earlier)
+
 pub alike-traces-agree : AlikeTracesAgree
 alike-traces-agree = record {
   rule = λ r locks log other a. alike-agree r locks log other a _ _ (λ i j. (λ b. b, λ b. b)) (λ i j. (λ b. b, λ b. b));
@@ -113,4 +120,5 @@ alike-traces-agree = record {
       (rules-mean-orders .rule-2 schedulable schedulable-lawful refl c log ok)
       (rules-mean-orders .rule-2 schedulable schedulable-lawful refl c other ok′);
   example = record { does = turned-does; finds = λ i j s same takes. absurd (no-takes i s (same .left) takes) };
+  counterexample = told-apart;
 }

@@ -122,12 +122,12 @@ module _ (log other : List Event) where
   pairs-differ p q x h k ahead (inr a) (inl b) = omega (arith, same-one (a .0) (b .1), same-one (a .1) (b .0))
   pairs-differ p q x h k ahead (inr a) (inr b) = omega (arith, same-one (a .0) (b .0), same-one (a .1) (b .1))
 
-  rising-apart : (ps : List PositionPair) → Rising ps → ((p : PositionPair) → List·Memᴰ p ps → p .earlier < p .later) →
+  pairs-apart : (ps : List PositionPair) → Rising ps → ((p : PositionPair) → List·Memᴰ p ps → p .earlier < p .later) →
       Apart (SameEvents log other) ps
-  rising-apart [] rising placed = tt
-  rising-apart (p ∷ ps) rising placed = (
+  pairs-apart [] rising placed = tt
+  pairs-apart (p ∷ ps) rising placed = (
     λ q m x. pairs-differ p q x (placed p (List·Memᴰ·head refl)) (placed q (List·Memᴰ·tail m)) (rising .0 q m),
-    rising-apart ps (rising .1) (λ q m. placed q (List·Memᴰ·tail m)),
+    pairs-apart ps (rising .1) (λ q m. placed q (List·Memᴰ·tail m)),
   )
 
 module _ (log other : List Event) (B C : Relation) (forth : Follows log other B C) (back : Follows other log C B) where
@@ -169,7 +169,7 @@ module _ (log other : List Event) (B C : Relation) (forth : Follows log other B 
 
   total-follows : (ps qs : List PositionPair) → Lists B log ps → Lists C other qs → length ps ≤ length qs
   total-follows ps qs l m =
-      no-more (SameEvents log other) ps qs (rising-apart log other ps (l .rising) (λ p k. l .placed p k .first)) (list-follows ps qs l m)
+      no-more (SameEvents log other) ps qs (pairs-apart log other ps (l .rising) (λ p k. l .placed p k .first)) (list-follows ps qs l m)
 
 pub follows-agree : (log other : List Event) (B C : Relation) → Follows log other B C → Follows other log C B → Agree log other B C
 follows-agree log other B C forth back = record {
@@ -199,7 +199,7 @@ module _ (log other : List Event) (does : (t : ℕ) → operations t log ≡ ope
       let many : count log t (length log) ≡ count other t (length other) = count-all log t ∙ ap length (does t) ∙ sym (count-all other t) in
       let within : local log i ≤ count other t (length other) = omega (arith, local-within log t i (length log) refl h) in
       let w = local-at other t (length other) (local log i) (omega (arith, local-is log t i refl)) within in
-      record { at = w .at; same = record { left = h; right = w .before; name = record { thread = sym (w .own); time = sym (w .time) } } }
+      record { at = w .at; same = record { left = h; right = w .member; name = record { thread = sym (w .own); time = sym (w .time) } } }
 
   -- events of one name have one operation, at one place among their thread's
   pub same-operation : (i k : ℕ) → Same log other i k → operation-at log i ≡ operation-at other k

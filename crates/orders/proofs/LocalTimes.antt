@@ -7,6 +7,7 @@ use native.Mathlib.Decide.{ℕ-discrete, decLe, decLt, le-ind}
 use Rattle.std.proofs.shelf.Tests.{eq-eqb, ne-eqb}
 use Rattle.events.specs.declared.event.Event.{Event}
 use Rattle.orders.specs.Traces.{thread-at, count, local, SameName}
+use Rattle.orders.specs.Times.{Reached}
 
 module _ (log : List Event) where
   pub count-same : (t n : ℕ) → thread-at log n ≡ t → count log t (suc n) ≡ suc (count log t n)
@@ -50,21 +51,15 @@ module _ (log : List Event) where
     | no k ↦ elim (decLt j i) [ yes l ↦ absurd (omega (arith, local-less t j i b a l)) | no l ↦ omega arith ]
   ]
 
-  -- thread t has an event of local time v before n
-  pub record Event-of (t n v : ℕ) : Type 0 where
-    pub at : ℕ
-    pub before : at < n
-    pub own : thread-at log at ≡ t
-    pub time : local log at ≡ v
-
   -- each local time up to the count has its event
-  pub local-at : (t n v : ℕ) → 0 < v → v ≤ count log t n → Event-of t n v
+  pub local-at : (t n v : ℕ) → 0 < v → v ≤ count log t n → Reached log (λ j. j < n) t v
   local-at t zero v a b = absurd (omega arith)
   local-at t (suc n) v a b = go (ℕ-discrete (thread-at log n) t) (decLe v (count log t n)) (local-at t n v a)
     where
-      go : Dec (thread-at log n ≡ t) → Dec (v ≤ count log t n) → (v ≤ count log t n → Event-of t n v) → Event-of t (suc n) v
-      go d (yes h) f = let w = f h in record { at = w .at; before = omega (arith, w .before); own = w .own; time = w .time }
-      go (yes e) (no h) f = record { at = n; before = omega arith; own = e; time = omega (arith, local-is t n e, count-same t n e) }
+      go : Dec (thread-at log n ≡ t) → Dec (v ≤ count log t n) → (v ≤ count log t n → Reached log (λ j. j < n) t v) →
+          Reached log (λ j. j < suc n) t v
+      go d (yes h) f = let w = f h in record { at = w .at; member = omega (arith, w .member); own = w .own; time = w .time }
+      go (yes e) (no h) f = record { at = n; member = omega arith; own = e; time = omega (arith, local-is t n e, count-same t n e) }
       go (no e) (no h) f = absurd (omega (arith, count-other t n e))
 
 pub name-back : {log other : List Event} {i j : ℕ} → SameName log other i j → SameName other log j i

@@ -12,7 +12,7 @@ use Rattle.std.proofs.shelf.Lists.{getD-set-same, getD-set-other, length-set}
 use Rattle.events.specs.declared.event.Event.{Event}
 use Rattle.events.specs.Rules.{OrderRule, Lawful}
 use Rattle.clock_bank.specs.Rows.{Rows, fresh, entry, grown, joined, posted, new-row, advanced}
-use Rattle.clock_bank.proofs.Entries.{Sized, fresh-sized, fresh-entry, advanced-sized, getD-larger}
+use Rattle.clock_bank.proofs.Entries.{Sized, thread-row, slot-row, fresh-sized, fresh-entry, advanced-sized, getD-larger}
 use Rattle.orders.specs.declared.counts.Counts.{Counts}
 use Rattle.orders.specs.Traces.{thread-at, operation-at, count, local}
 use Rattle.orders.specs.Accepted.{Inside}
@@ -20,7 +20,7 @@ use Rattle.orders.specs.Orders.{Relation, Contains, Preorder, self, then, InTh
 use Rattle.orders.specs.Times.{Reached, Largest, Time}
 use Rattle.orders.specs.Stamps.{after, stamp}
 use Rattle.orders.specs.Theorems.{ToldByTimes, StampsAreTimes}
-use Rattle.orders.proofs.LocalTimes.{Event-of, local-is, local-within, local-less, local-at}
+use Rattle.orders.proofs.LocalTimes.{local-is, local-within, local-less, local-at}
 use Rattle.orders.proofs.Closures.{upwards, edge-up, edge-1-up, edge-2-up, closure-order, one-edge}
 use Rattle.orders.proofs.Largest.{largest-as, largest-same, largest-none, largest-both, largest-one}
 use Rattle.orders.proofs.Slots.{none-some, takes-inside}
@@ -49,8 +49,8 @@ module _ (r : OrderRule) (locks : ℕ) (log : List Event) where
           let k : w .at < n = omega (arith, upwards (edge-up r locks log) (w .member .before), w .member .below) in
           omega (arith, w .time, local-within log u (w .at) n (w .own) k)
 
-      from : Event-of log u n (count log u n) → count log u n ≤ v
-      from w = omega (arith, w .time, l .bound (w .at) (record { at = w .at; below = w .before; own = w .own; before = self }) (w .own))
+      from : Reached log (λ j. j < n) u (count log u n) → count log u n ≤ v
+      from w = omega (arith, w .time, l .bound (w .at) (record { at = w .at; below = w .member; own = w .own; before = self }) (w .own))
 
       lower : Dec (count log u n ≤ 0) → count log u n ≤ v
       lower (yes h) = omega arith
@@ -239,9 +239,9 @@ module _ (r : OrderRule) (law : Lawful r) (c : Counts) (log : List Event) (insid
   new-right : (n : ℕ) (rows : Rows) → n < length log → Right n rows → (t : ℕ) → t < c .threads
       → Time (Before r (c .locks) log) log n t (getD (new-row rows (thread-at log n) (r .takes (c .locks) (operation-at log n))) t 0)
   new-right n rows h w = joined-right r (c .locks) log n (c .threads) (grown old u) (rows .slots) take h refl
-      (length-set old u _ ∙ w .sized .thread-row u own)
-      (λ s e. w .sized .slot-row s (slot s e))
-      (grown-right r (c .locks) log n (c .threads) old h own (w .sized .thread-row u own) (λ t below. w .knows u t own below))
+      (length-set old u _ ∙ thread-row (w .sized) u own)
+      (λ s e. slot-row (w .sized) s (slot s e))
+      (grown-right r (c .locks) log n (c .threads) old h own (thread-row (w .sized) u own) (λ t below. w .knows u t own below))
       (λ s t e below. w .holds s t (slot s e) below)
     where
       u : ℕ
@@ -283,7 +283,7 @@ module _ (r : OrderRule) (law : Lawful r) (c : Counts) (log : List Event) (insid
       (omega (arith, after-right i (omega arith) .sized .threads, inside .thread i h))
 
   pub stamp-long : (i : ℕ) → i < length log → length (stamp r c log i) ≡ c .threads
-  stamp-long i h = after-right (suc i) h .sized .thread-row (thread-at log i) (inside .thread i h)
+  stamp-long i h = thread-row (after-right (suc i) h .sized) (thread-at log i) (inside .thread i h)
 
   pub stamp-time : (i t : ℕ) → i < length log → t < c .threads → Time (Before r (c .locks) log) log i t (getD (stamp r c log i) t 0)
   stamp-time i t h below = largest-as (ap (λ row. getD row t 0) (sym (stamp-is i h)))
@@ -313,6 +313,7 @@ rule-told r locks log = told (Before r locks log) log (closure-order _)
 pub stamps-are-times : (R : Relation) → StampsAreTimes R
 stamps-are-times R = record {
   times = stamp-time;
+  long = stamp-long;
   rule = rule-told;
   order-1 = λ log. told (Order1 log) log (closure-order _) (λ i j b. upwards (edge-1-up log) b) (λ i j e. one-edge (thread-edge-1 e));
   order-2 = λ log. told (Order2 log) log (closure-order _) (λ i j b. upwards (edge-2-up log) b)

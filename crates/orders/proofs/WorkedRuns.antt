@@ -23,10 +23,10 @@ use Rattle.orders.specs.Orders.{Relation, Before, Order1, Order2}
 use Rattle.orders.specs.Times.{Time}
 use Rattle.orders.specs.Pairs.{Lists}
 use Rattle.orders.specs.Stamps.{stamp, found}
-use Rattle.orders.specs.WorkedRuns.{Stamp, Stated, Run, Timed, Gives, Holds, stamped, stated, run, runs}
+use Rattle.orders.specs.WorkedRuns.{Stamp, Stated, Run, Timed, Gives, Holds, sizes, does, stamped, stated, run, runs}
 use Rattle.orders.specs.Theorems.{WorkedRunsHold}
 use Rattle.orders.proofs.Largest.{largest-same}
-use Rattle.orders.proofs.Slots.{happens-before-lawful, schedulable-lawful}
+use Rattle.orders.proofs.Slots.{none-some, happens-before-lawful, schedulable-lawful}
 use Rattle.orders.proofs.Times.{stamp-time, stamp-long}
 use Rattle.orders.proofs.Locks.{rules-mean-orders}
 use Rattle.orders.proofs.Found.{found-list}
@@ -177,6 +177,16 @@ all-hold (x ∷ xs) is same =
     let parts = and-parts _ _ is in
     (run-holds x (parts .0) first, all-hold xs (parts .1) rest)
 
+-- t0 holds the lock, and any thread acquires it
+held : (t : ℕ) → Accepted (sizes 2 1 0) (does 0 (Acquire 0) ∷ does t (Acquire 0) ∷ []) → ⊥
+held t ok = none-some (sym (ok .free 1 0 (omega arith) refl))
+
+not-the-holder : Accepted (sizes 2 1 0) (does 0 (Acquire 0) ∷ does 1 (Release 0) ∷ []) → ⊥
+not-the-holder ok = let z : _≡_ {A = ℕ} 0 1 = cc (ok .own 1 0 (omega arith) refl) in omega arith
+
 -- the one test, over the whole list
 pub worked-runs-hold : WorkedRunsHold
-worked-runs-hold = all-hold runs refl refl
+worked-runs-hold = record {
+  hold = all-hold runs refl refl;
+  not-so = (held 1, (held 0, (not-the-holder, tt)));
+}

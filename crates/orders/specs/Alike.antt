@@ -21,6 +21,9 @@ abbrev pub operations : ℕ → List Event → List Operation
 operations t [] = []
 operations t (e ∷ es) = cond (eqb (e .thread) t) (e .operation ∷ operations t es) (operations t es)
 
+abbrev pub SameOperations : List Event → List Event → Type 0
+SameOperations log other = (t : ℕ) → operations t log ≡ operations t other
+
 -- i and j are positions of their traces, and their events have one name
 pub record Same (log other : List Event) (i j : ℕ) : Type 0 where
   pub left : i < length log
@@ -41,12 +44,12 @@ pub record SameLast (log other : List Event) (P Q : ℕ → Type 0) (i j : ℕ) 
 
 -- every thread has the same operations in both, and every taking event finds the same last post, or none in both
 pub record Alike (r : OrderRule) (locks : ℕ) (log other : List Event) : Type 0 where
-  pub does : (t : ℕ) → operations t log ≡ operations t other
+  pub does : SameOperations log other
   pub finds : (i j s : ℕ) → Same log other i j → Takes r locks log s i → SameLast log other (Posts r locks log s) (Posts r locks other s) i j
 
 -- the same in the words of order 1: every acquire finds the same last release of its lock, or none in both
 pub record Alike1 (log other : List Event) : Type 0 where
-  pub does : (t : ℕ) → operations t log ≡ operations t other
+  pub does : SameOperations log other
   pub acquires : (i j l : ℕ) → Same log other i j → Performs log (Acquire l) i →
       SameLast log other (Performs log (Release l)) (Performs other (Release l)) i j
 

@@ -17,7 +17,7 @@ use Rattle.orders.specs.Times.{Time}
 use Rattle.orders.specs.Pairs.{Pair, Lists, Total}
 use Rattle.orders.specs.Stamps.{stamp, unseen, found}
 use Rattle.orders.specs.Alike.{Alike, Alike1, Alike2, Agree}
-use Rattle.orders.specs.WorkedRuns.{Holds, run-b, turned-b, runs}
+use Rattle.orders.specs.WorkedRuns.{Holds, sizes, run-b, turned-b, not-accepted, runs}
 
 -- the closure of edges E that lead to no earlier position is the smallest partial order that contains them;
 -- so are a rule's order and orders 1 and 2. R is any relation
@@ -39,11 +39,13 @@ abbrev pub ToldByTimes : Relation → List Event → Type 0
 ToldByTimes B log =
     (i j v : ℕ) → i < length log → j < length log → Time B log j (thread-at log i) v → B i j ↔ local log i ≤ v
 
--- a bank that follows a trace from fresh rows has after each event, in its thread's row, the event's time; no relation R
--- gives an event two times
+-- a bank that follows a trace from fresh rows has after each event, in its thread's row, the event's time, a number for
+-- each thread; no relation R gives an event two times
 pub record StampsAreTimes (R : Relation) : Type 0 where
   pub times : (r : OrderRule) → Lawful r → (c : Counts) (log : List Event) → Inside c log →
       (i t : ℕ) → i < length log → t < c .threads → Time (Before r (c .locks) log) log i t (getD (stamp r c log i) t 0)
+  pub long : (r : OrderRule) → Lawful r → (c : Counts) (log : List Event) → Inside c log →
+      (i : ℕ) → i < length log → length (stamp r c log i) ≡ c .threads
   pub rule : (r : OrderRule) (locks : ℕ) (log : List Event) → ToldByTimes (Before r locks log) log
   pub order-1 : (log : List Event) → ToldByTimes (Order1 log) log
   pub order-2 : (log : List Event) → ToldByTimes (Order2 log) log
@@ -61,7 +63,7 @@ pub record PairsAreFound (R : Relation) : Type 0 where
   pub one : (log : List Event) (ps qs : List PositionPair) → Lists R log ps → Lists R log qs → ps ≡ qs
 
 -- two traces that are alike under a rule agree under its order, and so do accepted traces under orders 1 and 2; alike
--- traces may differ, as the events of run B in either order
+-- traces may differ: rule 1 does not tell the events of run B from the same in the other order, and order 2 does
 pub record AlikeTracesAgree : Type 0 where
   pub rule : (r : OrderRule) (locks : ℕ) (log other : List Event) → Alike r locks log other →
       Agree log other (Before r locks log) (Before r locks other)
@@ -70,6 +72,7 @@ pub record AlikeTracesAgree : Type 0 where
   pub order-2 : (c : Counts) (log other : List Event) → Accepted c log → Accepted c other → Alike2 log other →
       Agree log other (Order2 log) (Order2 other)
   pub example : Alike happens-before 0 (run-b .log) turned-b
+  pub counterexample : Alike2 (run-b .log) turned-b → ⊥
 
 -- order 2 contains order 1, so every pair of order 2 is a pair of order 1
 pub record FewerPairs : Type 0 where
@@ -86,6 +89,8 @@ pub record LaterEventsChangeNothing (log more : List Event) : Type 0 where
   pub pairs : (r : OrderRule) (c : Counts) → take (length (found r c log)) (found r c (log ++ more)) ≡ found r c log
   pub accepted : (c : Counts) → Accepted c (log ++ more) → Accepted c log
 
--- every worked run is an accepted trace with the times and pairs that it states
-abbrev pub WorkedRunsHold : Type 0
-WorkedRunsHold = All Holds runs
+-- every worked run is an accepted trace with the times and pairs that it states; and what breaks the lock discipline is
+-- not accepted
+pub record WorkedRunsHold : Type 0 where
+  pub hold : All Holds runs
+  pub not-so : All (λ log. Accepted (sizes 2 1 0) log → ⊥) not-accepted

@@ -9,7 +9,7 @@ use Rattle.events.specs.declared.event.Operation.{Operation}
 use Rattle.events.specs.declared.event.Operation.the-variants.{Read}
 use Rattle.events.specs.declared.event.Event.{Event}
 
--- what is read past the end of a trace; no statement is about it
+-- what is read past the end of a trace; it stands at no position
 abbrev pub no-event : Event
 no-event = record { thread = 0; operation = Read 0 }
 

@@ -112,5 +112,14 @@ abbrev pub run-h : Run
 run-h = run (sizes 4 3 0) (locked 0 0 (locked 2 0 (locked 1 1 (locked 2 1 (locked 3 1 (locked 2 2 (does 3 (Acquire 2) ∷ [])))))))
     (stated (stamped 12 (2 ∷ 2 ∷ 6 ∷ 3 ∷ []) ∷ []) []) (stated (stamped 12 (2 ∷ 2 ∷ 6 ∷ 3 ∷ []) ∷ []) [])
 
+-- traces of two threads and a lock that are not accepted: t0 holds the lock, and t1 acquires it, or t0 does again, or
+-- t1 releases it
+abbrev pub not-accepted : List (List Event)
+not-accepted =
+    (does 0 (Acquire 0) ∷ does 1 (Acquire 0) ∷ [])
+    ∷ (does 0 (Acquire 0) ∷ does 0 (Acquire 0) ∷ [])
+    ∷ (does 0 (Acquire 0) ∷ does 1 (Release 0) ∷ [])
+    ∷ []
+
 abbrev pub runs : List Run
 runs = run-a ∷ run-b ∷ run-c ∷ run-d ∷ run-e ∷ run-f ∷ run-g ∷ run-h ∷ []
