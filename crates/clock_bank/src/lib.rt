@@ -1,3 +1,5 @@
 // Clock banks: what a bank means, how it refuses, and the one interface of all banks.
+#![tactic(auto)]
+
 pub mod bank;
 pub mod fault;

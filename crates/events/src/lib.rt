@@ -1,4 +1,6 @@
 // Operations, events, which of them conflict, and the rules that order them.
+#![tactic(auto)]
+
 pub mod conflict;
 pub mod event;
 pub mod happens_before;

@@ -1,5 +1,7 @@
 // A keep-list: a list of records over a table that its user lends. It appends while the table lasts,
 // and counts all that it is given, also what found no place.
+#![tactic(auto)]
+
 ghost use Rattle.std.specs.Prelude.{◌≡◌, length};
 ghost use Rattle.std.specs.List.{slice_get};
 ghost use Rattle.keep_list.specs.Kept.{empty, added, records, kept};

@@ -1,5 +1,7 @@
 // The notebook: it notes events one after another, with their times and the pairs that race, over any clock bank and
 // under any order rule.
+#![tactic(auto)]
+
 mod calls;
 pub mod fault;
 pub mod lock;

@@ -1,5 +1,7 @@
 // Notes the worked runs that it reads from standard input into a notebook, over the flat bank and under the order that
 // each line names; asks the notebook every question; and prints what it answers, and whether that is as expected.
+#![tactic(auto)]
+
 mod replay;
 mod script;
 

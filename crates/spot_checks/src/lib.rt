@@ -1,4 +1,6 @@
 // Tests at the limits, by example, of the crates below.
+#![tactic(auto)]
+
 #[cfg(test)]
 mod banks;
 #[cfg(test)]

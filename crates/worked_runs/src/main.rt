@@ -1,5 +1,7 @@
 // Runs the worked runs that it reads from standard input through the flat bank, under the order that each
 // line names, and prints every event's time, the pairs that race, and whether they are as expected.
+#![tactic(auto)]
+
 mod replay;
 mod script;
 
