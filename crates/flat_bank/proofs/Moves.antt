@@ -11,7 +11,7 @@ use Rattle.flat_bank.specs.Flat.{run, rows_in, flat_rows, places, cleared}
 use Rattle.flat_bank.specs.Shape.{length_rows, row_at, row_within, length_run, thread_row, slot_row}
 use Rattle.clock_bank.proofs.Advance.{same_rows}
 use Rattle.clock_bank.proofs.Entries.{length_larger}
-use Rattle.flat_bank.proofs.Runs.{run_same, run_beside, get_or_run, get_d_beside, set_in_run}
+use Rattle.flat_bank.proofs.Runs.{run_same, run_beside, get_or_run, get_or_beside, set_in_run}
 
 -- rows of a table that begins with m zeros
 zero_rows : (n k m : ℕ) (rest : List ℕ) → n * k ≤ m → rows_in n k (replicate m 0 ++ rest) ≡ replicate n (replicate k 0)
@@ -71,7 +71,7 @@ module _ (k s : ℕ) (cells : List ℕ) (fits : places k s ≤ length cells) whe
         rest = ap (drop (places k s)) is
             ∙ same_lists _ _ (simp (length-drop, same))
             (λ j d l. get_or-drop (places k s) (paste cells (q * k) ys k) j d
-            ∙ get_d_beside cells (q * k) k ys (places k s + j) d (omega arith) (omega arith) (inr (omega arith))
+            ∙ get_or_beside cells (q * k) k ys (places k s + j) d (omega arith) (omega arith) (inr (omega arith))
             ∙ sym (get_or-drop (places k s) cells j d));
       }
 

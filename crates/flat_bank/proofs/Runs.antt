@@ -11,10 +11,10 @@ pub get_or_run : (at n i d : ℕ) (cells : List ℕ) → i < n → get_or (run a
 get_or_run at n i d cells h = get_or-take n (drop at cells) i d h ∙ get_or-drop at cells i d
 
 -- a number that a write of the first n of ys does not reach
-pub get_d_beside : (cells : List ℕ) (at n : ℕ) (ys : List ℕ) (i d : ℕ) → n ≤ length ys → at + n ≤ length cells → (i < at) ⊎ (at + n ≤ i)
+pub get_or_beside : (cells : List ℕ) (at n : ℕ) (ys : List ℕ) (i d : ℕ) → n ≤ length ys → at + n ≤ length cells → (i < at) ⊎ (at + n ≤ i)
     → get_or (paste cells at ys n) i d ≡ get_or cells i d
-get_d_beside cells at n ys i d short fits (inl h) = search (rules, places)
-get_d_beside cells at n ys i d short fits (inr h) = search (rules, places)
+get_or_beside cells at n ys i d short fits (inl h) = search (rules, places)
+get_or_beside cells at n ys i d short fits (inr h) = search (rules, places)
 
 module _ (cells : List ℕ) (at n : ℕ) (ys : List ℕ) (long : length ys ≡ n) (fits : at + n ≤ length cells) where
   pub run_same : run at n (paste cells at ys n) ≡ ys
@@ -24,7 +24,7 @@ module _ (cells : List ℕ) (at n : ℕ) (ys : List ℕ) (long : length ys ≡ n
   run_beside b apart =
       same_lists _ _ (simp (length-take, length-drop, length-paste cells at ys n fits (omega arith)))
       (λ j d h. let l : j < n = omega (arith, simp (length-take, length-drop) at h) in
-      get_or_run b n j d (paste cells at ys n) l ∙ get_d_beside cells at n ys (b + j) d (omega arith) fits (elim apart [ inl p ↦ inl (omega arith) | inr p ↦ inr (omega arith) ])
+      get_or_run b n j d (paste cells at ys n) l ∙ get_or_beside cells at n ys (b + j) d (omega arith) fits (elim apart [ inl p ↦ inl (omega arith) | inr p ↦ inr (omega arith) ])
       ∙ sym (get_or_run b n j d cells l))
 
 -- a turn of the loop that writes ys from a place on
@@ -55,12 +55,12 @@ module _ (cells : List ℕ) (at n i v : ℕ) (h : i < n) (fits : at + n ≤ leng
   set_in_run =
       same_lists _ _ (length-set cells (at + i) v ∙ sym (length-paste cells at new n fits (omega (arith, long))))
       (λ j d l. elim (cases_lt j at) as (λ _. get_or (set cells (at + i) v) j d ≡ get_or (paste cells at new n) j d) [
-        | inl below ↦ get_or-set_other cells (at + i) j v d (omega arith) ∙ sym (get_d_beside cells at n new j d (omega (arith, long)) fits (inl below))
+        | inl below ↦ get_or-set_other cells (at + i) j v d (omega arith) ∙ sym (get_or_beside cells at n new j d (omega (arith, long)) fits (inl below))
         | inr above ↦ elim (cases_lt j (at + n)) as (λ _. get_or (set cells (at + i) v) j d ≡ get_or (paste cells at new n) j d) [
           | inl within ↦
               let back : at + (j - at) ≡ j = omega arith in
               subst (λ (x : ℕ). get_or (set cells (at + i) v) x d ≡ get_or (paste cells at new n) x d) back
               (inside (j - at) d (omega arith) ∙ ap (λ (xs : List ℕ). get_or xs (j - at) d) (sym (run_same cells at n new long fits)) ∙ get_or_run at n (j - at) d (paste cells at new n) (omega arith))
-          | inr past ↦ get_or-set_other cells (at + i) j v d (omega arith) ∙ sym (get_d_beside cells at n new j d (omega (arith, long)) fits (inr past))
+          | inr past ↦ get_or-set_other cells (at + i) j v d (omega arith) ∙ sym (get_or_beside cells at n new j d (omega (arith, long)) fits (inr past))
         ]
       ])

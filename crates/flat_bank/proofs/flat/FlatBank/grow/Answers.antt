@@ -8,8 +8,8 @@ bounds-self-place c =
     let self = c.args.self.now in
     number_within self.threads self.slots c.args.thread c.args.thread _ (omega arith) (omega arith) self.fits
 
-pub overflow-add-self : goal.overflow-add-self
-overflow-add-self c =
+pub overflow_add-self : goal.overflow_add-self
+overflow_add-self c =
     let self = c.args.self.now in
     omega (arith, thread_entry self.threads self.slots self.table.cells.now c.args.thread c.args.thread (omega arith) (omega arith))
 

@@ -3,8 +3,8 @@ use Rattle.std.proofs.lemmas.Nat.{mul-le}
 use Rattle.flat_bank.proofs.Entries.{number_within}
 use Rattle.flat_bank.proofs.flat.FlatBank.number.Goals as goal
 
-pub offset-bounds-self-row : goal.offset-bounds-self-row
-offset-bounds-self-row c = omega (arith, mul-le c.args.row c.args.self.now.threads 1312 32 (omega arith) (omega arith))
+pub offset_bounds-self-row : goal.offset_bounds-self-row
+offset_bounds-self-row c = omega (arith, mul-le c.args.row c.args.self.now.threads 1312 32 (omega arith) (omega arith))
 
 pub bounds-self-row : goal.bounds-self-row
 bounds-self-row c =

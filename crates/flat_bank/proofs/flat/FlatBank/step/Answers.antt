@@ -20,23 +20,25 @@ pub grow-requires : goal.grow-requires
 grow-requires c =
     let b = c.args.self.now in
     let r = right b c.args.thread c.args.take c.args.post c.requires in
-    (omega (arith, r.thread, length_threads b.threads b.slots b.table.cells.now), r.below)
+    record { thread_lt_threads = omega (arith, r.thread, length_threads b.threads b.slots b.table.cells.now); thread_bound = r.below }
 
 pub take-requires : goal.take-requires
 take-requires c =
     let b = c.args.self.now in
-    let r = right b c.args.thread c.args.take c.args.post c.requires in (
-      omega (arith, r.thread, length_threads b.threads b.slots b.table.cells.now, c.grow.ensures.threads),
-      ap (λ (s : ℕ). is_slot_of s c.args.take) (c.grow.ensures.slots ∙ slots_are b) ∙ r.take_slot,
-    )
+    let r = right b c.args.thread c.args.take c.args.post c.requires in
+    record {
+      thread_lt_threads = omega (arith, r.thread, length_threads b.threads b.slots b.table.cells.now, c.grow.ensures.threads);
+      slot_value = ap (λ (s : ℕ). is_slot_of s c.args.take) (c.grow.ensures.slots ∙ slots_are b) ∙ r.take_slot;
+    }
 
 pub post-requires : goal.post-requires
 post-requires c =
     let b = c.args.self.now in
-    let r = right b c.args.thread c.args.take c.args.post c.requires in (
-      omega (arith, r.thread, length_threads b.threads b.slots b.table.cells.now, c.grow.ensures.threads, c.take.ensures.threads),
-      ap (λ (s : ℕ). is_slot_of s c.args.post) (c.take.ensures.slots ∙ c.grow.ensures.slots ∙ slots_are b) ∙ r.post_slot,
-    )
+    let r = right b c.args.thread c.args.take c.args.post c.requires in
+    record {
+      thread_lt_threads = omega (arith, r.thread, length_threads b.threads b.slots b.table.cells.now, c.grow.ensures.threads, c.take.ensures.threads);
+      slot_value = ap (λ (s : ℕ). is_slot_of s c.args.post) (c.take.ensures.slots ∙ c.grow.ensures.slots ∙ slots_are b) ∙ r.post_slot;
+    }
 
 pub returns : goal.returns
 returns c =

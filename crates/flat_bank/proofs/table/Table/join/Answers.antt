@@ -4,7 +4,7 @@ use Rattle.clock_bank.specs.Rows.{larger}
 use Rattle.flat_bank.specs.Flat.{run}
 use Rattle.flat_bank.specs.Shape.{length_run}
 use Rattle.clock_bank.proofs.Entries.{length_larger, get_or_larger}
-use Rattle.flat_bank.proofs.Runs.{get_or_run, get_d_beside, paste_turn}
+use Rattle.flat_bank.proofs.Runs.{get_or_run, get_or_beside, paste_turn}
 use Rattle.flat_bank.proofs.table.Table.join.Goals as goal
 
 pub loop-i-init : goal.loop-i-init
@@ -26,7 +26,7 @@ loop-i-preserved c =
     let long : length row ≡ width = length_larger mine theirs ∙ mine-long in
     let unwritten : (a : ℕ) → (a + i < to) ⊎ (to + i ≤ a + i) → a + i < length old → i < width → get_or now (a + i) 0 ≡ get_or (run a width old) i 0 =
     λ a beside within below. ap (λ (cells : List ℕ). get_or cells (a + i) 0) c.loop-i.invariant
-    ∙ get_d_beside old to i row (a + i) 0 (omega arith) (omega arith) beside
+    ∙ get_or_beside old to i row (a + i) 0 (omega arith) (omega arith) beside
     ∙ sym (get_or_run a width i 0 old below) in
     let left : get_or now (to + i) 0 ≡ get_or mine i 0 = unwritten to (inr (omega arith)) (omega arith) (omega arith) in
     let right : get_or now (from + i) 0 ≡ get_or theirs i 0 = unwritten from (inr (omega arith)) (omega arith) (omega arith) in

@@ -16,20 +16,20 @@ order : (n : Notebook) (i j : ℕ) (answer : Result Bool NotebookFault) → answ
 order n i j answer is =
     in_every_run n (TellsOrder i j answer n.counts) (λ s r law log rows f. tells_order n s r law log rows f i j answer is)
 
-pub returns-in-default : goal.returns-in-default
-returns-in-default c =
+pub returns-in_default : goal.returns-in_default
+returns-in_default c =
     let n = c.args.self.now in
-    let value = before_first n c.args.first c.args.second c.in-default.ensures.value in
+    let value = before_first n c.args.first c.args.second c.in_default.ensures.value in
     record { same = same_log n c.get.ensures.same; value = value; order = order n c.args.first c.args.second (Err NoPosition) value }
 
-pub returns-in-err-known : goal.returns-in-err-known
-returns-in-err-known c =
+pub returns-in_err-known : goal.returns-in_err-known
+returns-in_err-known c =
     let n = c.args.self.now in
     let x = c.in-Some.logged in
     let same = same_log n c.get.ensures.same in
-    let told = c.in-err-known.ensures.value ∙ ap (λ (b : Book). stamp_answer b c.args.second x.event.thread) same in
+    let told = c.in_err-known.ensures.value ∙ ap (λ (b : Book). stamp_answer b c.args.second x.event.thread) same in
     let p = err_from_is_err_and c.from-residual.result c.from-residual.ensures.1 in
-    let value = p.1 ∙ (ap Err p.2 ∙ before_second n c.args.first c.args.second x c.in-err-known.field-0.0 c.in-Some.ensures.value told) in
+    let value = p.1 ∙ (ap Err p.2 ∙ before_second n c.args.first c.args.second x c.in_err-known.field-0.0 c.in-Some.ensures.value told) in
     record { same = c.stamp.ensures.same ∙ same; value = value; order = order n c.args.first c.args.second c.from-residual.result value }
 
 pub returns : goal.returns
@@ -37,10 +37,10 @@ returns c =
     let n = c.args.self.now in
     let x = c.in-Some.logged in
     let same = same_log n c.get.ensures.same in
-    let told = c.in-ok-known.ensures.value ∙ ap (λ (b : Book). stamp_answer b c.args.second x.event.thread) same in
-    let value = before_told n c.args.first c.args.second x c.in-ok-known.known c.in-Some.ensures.value told in
+    let told = c.in_ok-known.ensures.value ∙ ap (λ (b : Book). stamp_answer b c.args.second x.event.thread) same in
+    let value = before_told n c.args.first c.args.second x c.in_ok-known.known c.in-Some.ensures.value told in
     record {
       same = c.stamp.ensures.same ∙ same;
       value = value;
-      order = order n c.args.first c.args.second (Ok (leb x.time c.in-ok-known.known)) value;
+      order = order n c.args.first c.args.second (Ok (leb x.time c.in_ok-known.known)) value;
     }

@@ -43,8 +43,8 @@ stamp-requires g c =
       omega (arith, room.stamps, ap₂ ◌*◌ total same, same),
     )
 
-pub overflow-add-time : goal.overflow-add-time
-overflow-add-time g c =
+pub overflow_add-time : goal.overflow_add-time
+overflow_add-time g c =
     let n = c.args.self.now in
     let e = c.args.event in
     let room = room_of n e c.requires.1 in
@@ -58,8 +58,8 @@ overflow-add-time g c =
 pub change-lock-requires : goal.change-lock-requires
 change-lock-requires g c = lock_below c.args.self.now.counts c.args.event.operation c.args.self.now.some c.requires.1.object
 
-pub invariant-of-self : goal.invariant-of-self
-invariant-of-self g c =
+pub invariant_of-self : goal.invariant_of-self
+invariant_of-self g c =
     let n = c.args.self.now in
     let e = c.args.event in
     let log = kept n.tables.log in

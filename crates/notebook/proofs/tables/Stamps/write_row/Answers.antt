@@ -7,7 +7,7 @@ use Rattle.clock_bank.specs.Faults.{or_fault}
 use Rattle.clock_bank.proofs.Refusals.{ok_is, thread_entry_there}
 use Rattle.notebook.specs.declared.tables.Stamps.{Stamps}
 use Rattle.notebook.proofs.tables.Stamps.write_row.Goals as goal
-use Rattle.notebook.proofs.tables.Stamps.write_row.Goals.{in-Ok, in-default}
+use Rattle.notebook.proofs.tables.Stamps.write_row.Goals.{in-Ok, in_default}
 
 pub loop-column-init : goal.loop-column-init
 loop-column-init g c =
@@ -31,7 +31,7 @@ loop-column-preserved g c =
           ∙ (ap (λ (v : ℕ). set c.loop-column.self.cells.now (at + u) v) is
           ∙ (ap (λ (now : List ℕ). set now (at + u) (get_or row u 0)) c.loop-column.invariant
           ∙ paste_more cells at row u 0 (omega arith) (omega arith)))
-      | in-default w ↦ absurd (w.in-default.not-Ok _ answer)
+      | in_default w ↦ absurd (w.in_default.not-Ok _ answer)
     ]
 
 pub returns : goal.returns
