@@ -45,26 +45,6 @@ sound n = record {
   held = n.held;
 }
 
--- the same as the ghost fields of the notebook, one after another
-abbrev Fields : Counts → List Lock → List ℕ → Kept LoggedEvent → ℕ → Type 0
-Fields c locks seen log places = (c.threads ≤ 32)
-    × ((c.locks ≤ 256)
-    × ((c.variables ≤ 1024)
-    × ((length locks ≡ 256)
-    × ((length seen ≡ 32)
-    × ((log.total ≤ length log.table)
-    × ((log.total ≤ 65535)
-    × ((log.total * c.threads ≤ places)
-    × (((i : ℕ) → i < log.total → thread_at (logged_events log) i < c.threads)
-    × (((i : ℕ) → i < log.total → (get_or log.table i no_logged_event).time ≡ local (logged_events log) i)
-    × (((t : ℕ) → t < 32 → get_or seen t 0 ≡ count (logged_events log) t log.total)
-    × (((l : ℕ) → l < 256 → holder_number (get_or locks l free).holder ≡ holder_number (holder (logged_events log) l log.total))
-    × Unit {0})))))))))))
-
-pub fields : {c : Counts} {locks : List Lock} {seen : List ℕ} {log : Kept LoggedEvent} {places : ℕ} → Sound c locks seen log places
-    → Fields c locks seen log places
-fields s = (s.few, (s.some, (s.many, (s.every, (s.each, (s.whole, (s.short, (s.stamped, (s.inside, (s.timed, (s.counted, (s.held, tt))))))))))))
-
 pub sound_as : {c : Counts} {locks : List Lock} {seen : List ℕ} {log log' : Kept LoggedEvent} {places : ℕ} → log' ≡ log
     → Sound c locks seen log places → Sound c locks seen log' places
 sound_as {c} {locks} {seen} {log} {log'} {places} e s = subst (λ k. Sound c locks seen k places) (sym e) s

@@ -28,9 +28,9 @@ returns-in_err-known c =
     let x = c.in-Some.logged in
     let same = same_log n c.get.ensures.same in
     let told = c.in_err-known.ensures.value ∙ ap (λ (b : Book). stamp_answer b c.args.second x.event.thread) same in
-    let p = err_from_is_err_and c.from-residual.result c.from-residual.ensures.1 in
+    let p = err_from_is_err_and c.from_residual.result c.from_residual.ensures.1 in
     let value = p.1 ∙ (ap Err p.2 ∙ before_second n c.args.first c.args.second x c.in_err-known.field-0.0 c.in-Some.ensures.value told) in
-    record { same = c.stamp.ensures.same ∙ same; value = value; order = order n c.args.first c.args.second c.from-residual.result value }
+    record { same = c.stamp.ensures.same ∙ same; value = value; order = order n c.args.first c.args.second c.from_residual.result value }
 
 pub returns : goal.returns
 returns c =

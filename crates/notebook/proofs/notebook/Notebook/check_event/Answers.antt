@@ -16,10 +16,10 @@ returns c =
     let s = c.args.slots in
     let number = c.args.rule in
     let e = c.args.event in
-    let room = c.has-room-room.result in
-    let same = ap (holding n) c.has-room-room.ensures.same in
+    let room = c.has_room-room.result in
+    let same = ap (holding n) c.has_room-room.ensures.same in
     let has : room ≡ has_room (setting (book n)) (length (events (book n))) =
-    c.has-room-room.ensures.value ∙ ap (has_room (setting (book n))) (sym (length_events (kept n.tables.log) n.whole)) in
+    c.has_room-room.ensures.value ∙ ap (has_room (setting (book n))) (sym (length_events (kept n.tables.log) n.whole)) in
     record {
       same = same;
       answer = c.admit.ensures

@@ -10,7 +10,7 @@ use Rattle.notebook.specs.Parts.{Timed, stamped}
 use Rattle.notebook.specs.Tables.{written}
 use Rattle.notebook.specs.View.{book}
 use Rattle.notebook.proofs.Logs.{length_events}
-use Rattle.notebook.proofs.Sound.{sound, fields, sound_at}
+use Rattle.notebook.proofs.Sound.{sound, sound_at}
 use Rattle.notebook.proofs.Entering.{room_of, added_more, more_sound, new_time, lock_below, count_most}
 use Rattle.notebook.proofs.notebook.Notebook.enter.Goals as goal
 
@@ -32,22 +32,23 @@ entered b e row old new w k n time old-is w-is k-is n-is time-is New-is =
 pub stamp-requires : goal.stamp-requires
 stamp-requires g c =
     let n = c.args.self.now in
-    let room = room_of n c.args.event c.requires.1 in
+    let room = room_of n c.args.event c.requires.admitted in
     let total = c.total-position.ensures.value in
     let k : ℕ = length (g.B.Bank.rows c.args.bank.now).threads in
-    let same : k ≡ n.counts.threads = c.requires.0 in
+    let same : k ≡ n.counts.threads = c.requires.bank_len in
     let timed : Timed (kept n.tables.log) k c.total-position.result =
-    record { within = omega (arith, total); whole = n.whole; inside = λ i h. omega (arith, n.inside i h); timed = n.timed } in (
-      subst (λ (log : Kept LoggedEvent). Timed log k c.total-position.result) (sym c.total-position.ensures.same) timed,
-      omega (arith, same, room.thread),
-      omega (arith, room.stamps, ap₂ ◌*◌ total same, same),
-    )
+    record { within = omega (arith, total); whole = n.whole; inside = λ i h. omega (arith, n.inside i h); timed = n.timed } in
+    record {
+      timed = subst (λ (log : Kept LoggedEvent). Timed log k c.total-position.result) (sym c.total-position.ensures.same) timed;
+      thread_in_bounds = omega (arith, same, room.thread);
+      bank_in_bounds = omega (arith, room.stamps, ap₂ ◌*◌ total same, same);
+    }
 
 pub overflow_add-time : goal.overflow_add-time
 overflow_add-time g c =
     let n = c.args.self.now in
     let e = c.args.event in
-    let room = room_of n e c.requires.1 in
+    let room = room_of n e c.requires.admitted in
     omega (
       arith,
       n.counted e.thread (omega (arith, room.thread, n.few)),
@@ -55,8 +56,8 @@ overflow_add-time g c =
       room.short,
     )
 
-pub change-lock-requires : goal.change-lock-requires
-change-lock-requires g c = lock_below c.args.self.now.counts c.args.event.operation c.args.self.now.some c.requires.1.object
+pub change_lock-requires : goal.change_lock-requires
+change_lock-requires g c = lock_below c.args.self.now.counts c.args.event.operation c.args.self.now.some c.requires.admitted.object
 
 pub invariant_of-self : goal.invariant_of-self
 invariant_of-self g c =
@@ -64,18 +65,32 @@ invariant_of-self g c =
     let e = c.args.event in
     let log = kept n.tables.log in
     let cells : List ℕ = n.tables.stamps.cells.now in
-    let room = room_of n e c.requires.1 in
+    let room = room_of n e c.requires.admitted in
     let x : LoggedEvent = record { event = e; time = get_or n.seen e.thread 0 + 1 } in
     let k : ℕ = length (g.B.Bank.rows c.args.bank.now).threads in
     let row : List ℕ = get_or (g.B.Bank.rows c.args.bank.now).threads e.thread [] in
     let same = ap (λ (w : Written). w.log) c.stamp.ensures ∙ c.total-position.ensures.same in
-    fields (sound_at c.change-lock.ensures
+    let s = sound_at c.change_lock.ensures
     (c.add.ensures ∙ (ap (λ (k : Kept LoggedEvent). added k x) same ∙ added_more log x (omega (arith, room.short))))
     (ap (λ (w : Written). length w.stamps) c.stamp.ensures
     ∙ length-paste cells (c.total-position.result * k) row k
-    (omega (arith, room.stamps, ap₂ ◌*◌ c.total-position.ensures.value c.requires.0, c.requires.0))
-    (omega (arith, (g.B.Bank.shaped c.args.bank.now).thread_rows e.thread (omega (arith, c.requires.0, room.thread)))))
-    (more_sound n.counts n.locks n.seen log (length cells) e (sound n) room.thread c.requires.1.lock room.log room.stamps room.short))
+    (omega (arith, room.stamps, ap₂ ◌*◌ c.total-position.ensures.value c.requires.bank_len, c.requires.bank_len))
+    (omega (arith, (g.B.Bank.shaped c.args.bank.now).thread_rows e.thread (omega (arith, c.requires.bank_len, room.thread)))))
+    (more_sound n.counts n.locks n.seen log (length cells) e (sound n) room.thread c.requires.admitted.lock room.log room.stamps room.short) in
+    record {
+      few = s.few;
+      some = s.some;
+      many = s.many;
+      every = s.every;
+      each = s.each;
+      whole = s.whole;
+      short = s.short;
+      stamped = s.stamped;
+      inside = s.inside;
+      timed = s.timed;
+      counted = s.counted;
+      held = s.held;
+    }
 
 pub returns : goal.returns
 returns g c =
@@ -85,12 +100,12 @@ returns g c =
     let log = kept n.tables.log in
     let cells : List ℕ = n.tables.stamps.cells.now in
     let row : List ℕ = get_or (g.B.Bank.rows c.args.bank.now).threads e.thread [] in
-    let room = room_of n e c.requires.1 in
+    let room = room_of n e c.requires.admitted in
     let at : c.total-position.result ≡ length (events b) = c.total-position.ensures.value ∙ sym (length_events log n.whole) in
-    let time = new_time n.counts n.locks n.seen log (length cells) e (sound n) room.thread c.requires.1.lock room.log room.stamps room.short in
+    let time = new_time n.counts n.locks n.seen log (length cells) e (sound n) room.thread c.requires.admitted.lock room.log room.stamps room.short in
     record {
       position = at;
       after = entered b e row (kept c.total-position.new.self) (kept c.add.new.self) (written c.stamp.new.self)
           (length (g.B.Bank.rows c.args.bank.now).threads) c.total-position.result (get_or n.seen e.thread 0 + 1)
-          c.total-position.ensures.same c.stamp.ensures c.requires.0 at time c.add.ensures;
+          c.total-position.ensures.same c.stamp.ensures c.requires.bank_len at time c.add.ensures;
     }

@@ -20,11 +20,11 @@ loop-column-preserved g c =
     let u = c.loop-column.column in
     let at = c.args.start in
     let cells = c.args.self.now.cells.now in
-    let long : length row ≡ length rows.threads = (g.B.Bank.shaped c.args.bank.now).thread_rows c.args.thread c.requires.0 in
-    let answer : c.thread-entry.result ≡ Ok (get_or row u 0) =
-    c.thread-entry.ensures
-    ∙ ap (λ (f : Option BankFault). or_fault f (get_or row u 0)) (thread_entry_there rows c.args.thread u c.requires.0 (omega arith)) in
-    elim c.match-thread-entry.branch [
+    let long : length row ≡ length rows.threads = (g.B.Bank.shaped c.args.bank.now).thread_rows c.args.thread c.requires.thread_in_bounds in
+    let answer : c.thread_entry.result ≡ Ok (get_or row u 0) =
+    c.thread_entry.ensures
+    ∙ ap (λ (f : Option BankFault). or_fault f (get_or row u 0)) (thread_entry_there rows c.args.thread u c.requires.thread_in_bounds (omega arith)) in
+    elim c.match-thread_entry.branch [
       | in-Ok w ↦
           let is : w.in-Ok.entry ≡ get_or row u 0 = ok_is (sym w.in-Ok.is ∙ answer) in
           ap (λ (s : Stamps). s.cells.now) w.self-is

@@ -14,12 +14,12 @@ pub loop-earlier-init : goal.loop-earlier-init
 loop-earlier-init c = refl
 
 pub races-requires : goal.races-requires
-races-requires c = (
-  subst (λ (log : Kept LoggedEvent). Timed log c.args.threads (c.loop-earlier.earlier + 1))
+races-requires c = (record {
+  timed = subst (λ (log : Kept LoggedEvent). Timed log c.args.threads (c.loop-earlier.earlier + 1))
       (sym (ap (λ (w : Written). w.log) c.loop-earlier.invariant))
-      (timed_less c.requires.0 (omega arith)),
-  omega (arith, c.requires.1, ap (λ (w : Written). length w.stamps) c.loop-earlier.invariant),
-)
+      (timed_less c.requires.timed (omega arith));
+  threads_in_bounds = omega (arith, c.requires.threads_in_bounds, ap (λ (w : Written). length w.stamps) c.loop-earlier.invariant);
+})
 
 pub loop-earlier-preserved : goal.loop-earlier-preserved
 loop-earlier-preserved c =

@@ -25,29 +25,29 @@ module _ (w : Written) (e : Event) (now row : List ℕ) (t k n : ℕ) (same : t 
   stamped_is =
       ap₂ (λ (cells r : List ℕ). paired (record { log = w.log; stamps = cells; pairs = w.pairs }) e r n n) now_is row_back
 
-pub write-row-requires : goal.write-row-requires
-write-row-requires g c = (c.requires.1, omega (arith, c.requires.2, ap (λ (m : ℕ). c.args.position * m) c.thread-count-threads.ensures))
+pub write_row-requires : goal.write_row-requires
+write_row-requires g c = (record { thread_in_bounds = c.requires.thread_in_bounds; bank_in_bounds = omega (arith, c.requires.bank_in_bounds, ap (λ (m : ℕ). c.args.position * m) c.thread_count-threads.ensures) })
 
-pub pair-up-requires : goal.pair-up-requires
-pair-up-requires g c =
+pub pair_up-requires : goal.pair_up-requires
+pair_up-requires g c =
     let w = written c.args.self.now in
     let rows = g.B.Bank.rows c.args.bank.now in
-    let same = c.thread-count-threads.ensures in
+    let same = c.thread_count-threads.ensures in
     let n = c.args.position in
     let k : ℕ = length rows.threads in
     let row : List ℕ = get_or rows.threads c.args.event.thread [] in
-    let long = now_long w c.args.event c.write-row.new.self.cells.now row c.thread-count-threads.result k n same c.write-row.ensures
-    ((g.B.Bank.shaped c.args.bank.now).thread_rows c.args.event.thread c.requires.1) c.requires.2 in (
-      subst (λ (m : ℕ). Timed w.log m n) (sym same) c.requires.0,
-      omega (arith, long, c.requires.2, ap (λ (m : ℕ). n * m) same),
-    )
+    let long = now_long w c.args.event c.write_row.new.self.cells.now row c.thread_count-threads.result k n same c.write_row.ensures
+    ((g.B.Bank.shaped c.args.bank.now).thread_rows c.args.event.thread c.requires.thread_in_bounds) c.requires.bank_in_bounds in (record {
+      timed = subst (λ (m : ℕ). Timed w.log m n) (sym same) c.requires.timed;
+      threads_in_bounds = omega (arith, long, c.requires.bank_in_bounds, ap (λ (m : ℕ). n * m) same);
+    })
 
 pub returns : goal.returns
 returns g c =
     let w = written c.args.self.now in
     let rows = g.B.Bank.rows c.args.bank.now in
     let row : List ℕ = get_or rows.threads c.args.event.thread [] in
-    c.pair-up.ensures
-    ∙ stamped_is w c.args.event c.write-row.new.self.cells.now row c.thread-count-threads.result (length rows.threads) c.args.position
-    c.thread-count-threads.ensures c.write-row.ensures
-    ((g.B.Bank.shaped c.args.bank.now).thread_rows c.args.event.thread c.requires.1) c.requires.2
+    c.pair_up.ensures
+    ∙ stamped_is w c.args.event c.write_row.new.self.cells.now row c.thread_count-threads.result (length rows.threads) c.args.position
+    c.thread_count-threads.ensures c.write_row.ensures
+    ((g.B.Bank.shaped c.args.bank.now).thread_rows c.args.event.thread c.requires.thread_in_bounds) c.requires.bank_in_bounds
