@@ -1,6 +1,6 @@
 -- The worked runs, by one computed test over their list. Assumes nothing.
 use Rattle.std.proofs.Common.{◌≡◌, ℕ, zero, suc, ◌<◌, Bool, true, false, ◌&&◌, eqb, ltb, ◌↔◌, List, [], ◌∷◌, map, length, get_or, Some, None, Option, sym, refl, ap, ◌∙◌, subst, inl, inr, arith}
-use Rattle.std.specs.List.{AllByRecursion as All}
+use Rattle.std.specs.List.{AllByRecursion}
 use Rattle.std.proofs.lemmas.Bool.{and_parts, eqb-true, ltb-true, cases_lt}
 use Rattle.events.specs.declared.event.Operation.{Operation}
 use Rattle.events.specs.declared.event.Operation.TheVariants.{Read, Write, Acquire, Release}
@@ -93,7 +93,7 @@ inside_all log (x ∷ xs) = ltb x.at (length log) && inside_all log xs
 -- the order that a rule means gives what the rule's clocks tell
 module _ (r : OrderRule) (law : Lawful r) (c : Counts) (log : List Event) (inside : Inside c log)
     (B : Relation) (means : (i j : ℕ) → Before r c.locks log i j ↔ B i j) where
-  timed : (xs : List Stamp) → inside_all log xs ≡ true → map (λ x. stamped x.at (stamp r c log x.at)) xs ≡ xs → All (Timed c B log) xs
+  timed : (xs : List Stamp) → inside_all log xs ≡ true → map (λ x. stamped x.at (stamp r c log x.at)) xs ≡ xs → AllByRecursion (Timed c B log) xs
   timed [] all same = tt
   timed (x ∷ xs) all same =
       let time : stamp r c log x.at ≡ x.time = cc in
@@ -160,7 +160,7 @@ run_holds x is same =
           x.order_2 times.1 (ap (λ y. y.order_2) same);
     }
 
-all_hold : (xs : List Run) → all_sensible xs ≡ true → map recomputed xs ≡ xs → All Holds xs
+all_hold : (xs : List Run) → all_sensible xs ≡ true → map recomputed xs ≡ xs → AllByRecursion Holds xs
 all_hold [] is same = tt
 all_hold (x ∷ xs) is same =
     let first : recomputed x ≡ x = cc in

@@ -1,6 +1,6 @@
 -- What is proved of orders, times and pairs. Each statement stands on the contract of a function. Assumes nothing.
 use Rattle.std.specs.Prelude.{◌≡◌, ℕ, ◌<◌, ◌≤◌, ◌↔◌, List, ◌++◌, length, take, Decides, slice_index}
-use Rattle.std.specs.List.{AllByRecursion as All}
+use Rattle.std.specs.List.{AllByRecursion}
 use Rattle.events.specs.declared.event.Event.{Event}
 use Rattle.events.specs.Rules.{OrderRule, Lawful, happens_before}
 use Rattle.orders.specs.declared.counts.Counts.{Counts}
@@ -87,5 +87,5 @@ pub record LaterEventsChangeNothing (log more : List Event) : Type 0 where
 -- every worked run is an accepted trace with the times and pairs that it states; and what breaks the lock discipline is
 -- not accepted
 pub record WorkedRunsHold : Type 0 where
-  pub hold : All Holds runs
-  pub not_so : All (λ log. Accepted (sizes 2 1 0) log → ⊥) not_accepted
+  pub hold : AllByRecursion Holds runs
+  pub not_so : AllByRecursion (λ log. Accepted (sizes 2 1 0) log → ⊥) not_accepted

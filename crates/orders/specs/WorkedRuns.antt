@@ -1,6 +1,6 @@
 -- The worked runs: short traces with the times and pairs that orders 1 and 2 give them. Assumes nothing.
 use Rattle.std.specs.Prelude.{◌≡◌, ℕ, ◌<◌, List, [], ◌∷◌, length, slice_index}
-use Rattle.std.specs.List.{AllByRecursion as All}
+use Rattle.std.specs.List.{AllByRecursion}
 use Rattle.events.specs.declared.event.Operation.{Operation}
 use Rattle.events.specs.declared.event.Operation.TheVariants.{Read, Write, Acquire, Release}
 use Rattle.events.specs.declared.event.Event.{Event}
@@ -34,7 +34,7 @@ pub record Timed (c : Counts) (B : Relation) (log : List Event) (s : Stamp) : Ty
 
 -- the order B gives what is stated
 pub record Gives (c : Counts) (B : Relation) (log : List Event) (s : Stated) : Type 0 where
-  pub times : All (Timed c B log) s.times
+  pub times : AllByRecursion (Timed c B log) s.times
   pub pairs : Lists B log s.pairs
 
 -- the run is an accepted trace, and what it states is so

@@ -10,8 +10,8 @@ use std::alloc::{AllocError, Global};
 
 fn refused(fault: BankFault) -> anyhow::Error {
     match fault.number() {
-        1 | 2 | 3 => "the run's counts are outside the limits of a bank".into(),
-        _ => "the bank refuses an event".into(),
+        1 | 2 | 3 => anyhow!("the run's counts are outside the limits of a bank"),
+        _ => anyhow!("the bank refuses an event"),
     }
 }
 
