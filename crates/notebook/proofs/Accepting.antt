@@ -1,5 +1,5 @@
 -- A trace that a notebook accepts is an accepted trace. Assumes nothing.
-use Rattle.std.proofs.Common.{◌≡◌, ℕ, ◌<◌, true, List, [], ◌∷◌, ◌++◌, length, Some, None, Option, sym, refl, ap, ◌∙◌, subst, arith}
+use Rattle.std.proofs.Common.{◌≡◌, ℕ, ◌<◌, true, List, [], ◌∷◌, ◌++◌, length, Some, None, Option, sym, refl, ◌∙◌, subst, arith}
 use native.Mathlib.Decide.{dec_lt}
 use Rattle.std.proofs.lemmas.List.{length_push}
 use Rattle.std.proofs.lemmas.Bool.{ltb-true}
@@ -9,7 +9,7 @@ use Rattle.events.specs.declared.event.Operation.TheVariants.{Read, Write, Acqui
 use Rattle.events.specs.declared.event.Event.{Event}
 use Rattle.events.specs.Events.{object_of}
 use Rattle.orders.specs.declared.counts.Counts.{Counts}
-use Rattle.orders.specs.Traces.{event, thread_at, operation_at}
+use Rattle.orders.specs.Traces.{event}
 use Rattle.orders.specs.Accepted.{HasObject, holder, Accepted}
 use Rattle.orders.proofs.Prefixes.{holder_shared}
 use Rattle.notebook.specs.Locks.{lock_fault}

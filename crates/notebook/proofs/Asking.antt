@@ -1,5 +1,5 @@
 -- What the questions find, by places. Assumes nothing.
-use Rattle.std.proofs.Common.{◌≡◌, ℕ, suc, ◌+◌, ◌*◌, ◌<◌, ◌≤◌, Bool, true, false, ◌&&◌, ltb, leb, List, length, get_or, Some, None, Ok, Err, Option, Result, sym, refl, ap, ◌∙◌, ap₂, inl, inr, mul-le-mul_right, suc-mul, arith}
+use Rattle.std.proofs.Common.{◌≡◌, ℕ, suc, ◌+◌, ◌*◌, ◌<◌, ◌≤◌, Bool, true, false, ◌&&◌, ltb, leb, length, get_or, Some, None, Ok, Err, Result, sym, refl, ap, ◌∙◌, ap₂, inl, inr, mul-le-mul_right, suc-mul, arith}
 use Rattle.std.specs.List.{slice_get}
 use Rattle.std.proofs.lemmas.Bool.{cases_lt, lt-ltb, le-ltb}
 use Rattle.keep_list.specs.Kept.{Kept, kept, records}
@@ -16,7 +16,7 @@ use Rattle.notebook.specs.declared.fault.NotebookFault.TheVariants.{NoThread, No
 use Rattle.notebook.specs.declared.log.LoggedEvent.{LoggedEvent}
 use Rattle.notebook.specs.declared.notebook.Notebook.{Notebook}
 use Rattle.notebook.specs.Places.{no_logged_event}
-use Rattle.notebook.specs.Books.{Book, events, stamp_held}
+use Rattle.notebook.specs.Books.{events, stamp_held}
 use Rattle.notebook.specs.Questions.{event_answer, stamp_answer, before_answer}
 use Rattle.notebook.specs.Tables.{written}
 use Rattle.notebook.specs.View.{book}

@@ -1,8 +1,8 @@
 -- One event more: the log, and what a notebook keeps beside it. Assumes nothing.
-use Rattle.std.proofs.Common.{◌≡◌, ℕ, zero, suc, ◌+◌, ◌*◌, ◌<◌, ◌≤◌, Bool, true, false, cond, eqb, ltb, List, [], ◌∷◌, ◌++◌, map, length, get_or, take, set, Some, None, Option, sym, refl, ap, ◌∙◌, subst, ap₂, suc-mul, add-one, arith}
+use Rattle.std.proofs.Common.{◌≡◌, ℕ, zero, suc, ◌+◌, ◌*◌, ◌<◌, ◌≤◌, Bool, true, cond, eqb, List, [], ◌∷◌, ◌++◌, map, length, get_or, take, set, Some, None, Option, sym, refl, ap, ◌∙◌, subst, ap₂, suc-mul, add-one, arith}
 use native.Mathlib.Decide.{ℕ_discrete, dec_lt}
-use Rattle.std.proofs.lemmas.List.{length-set, length_push, get_or-set_same, get_or-set_other, get_or_push, get_or_append_left, take_more_set, map_push}
-use Rattle.std.proofs.lemmas.Bool.{ltb-true, eq-eqb, ne_eqb, cond-true}
+use Rattle.std.proofs.lemmas.List.{length-set, get_or-set_same, get_or-set_other, get_or_push, take_more_set, map_push}
+use Rattle.std.proofs.lemmas.Bool.{ltb-true, eq-eqb, ne_eqb}
 use Rattle.std.proofs.lemmas.Bool.Decides.{nat_tests}
 use Rattle.clock_bank.specs.Faults.{unless}
 use Rattle.keep_list.specs.Kept.{Kept, kept, added, most}
@@ -15,8 +15,7 @@ use Rattle.orders.specs.declared.counts.Counts.{Counts}
 use Rattle.orders.specs.Traces.{no_event, event, thread_at, count, local}
 use Rattle.orders.specs.Accepted.{held_after, holder}
 use Rattle.orders.proofs.LocalTimes.{count_same, count_other, local_is}
-use Rattle.orders.proofs.Prefixes.{Shares, shares, count_shared, local_shared, holder_shared}
-use Rattle.orders.proofs.Slots.{none_some}
+use Rattle.orders.proofs.Prefixes.{shares, count_shared, local_shared, holder_shared}
 use Rattle.notebook.specs.declared.fault.NotebookFault.{NotebookFault}
 use Rattle.notebook.specs.declared.lock.Lock.{Lock}
 use Rattle.notebook.specs.declared.log.LoggedEvent.{LoggedEvent}
@@ -24,7 +23,7 @@ use Rattle.notebook.specs.Places.{no_logged_event, free, holder_number}
 use Rattle.notebook.specs.Locks.{lock_fault, lock_after}
 use Rattle.notebook.specs.Books.{logged_events, events}
 use Rattle.notebook.specs.Notes.{Setting, setting, is_object_of, has_room, held_by}
-use Rattle.notebook.specs.Parts.{Admitted, LockBelow, changed, locks_after}
+use Rattle.notebook.specs.Parts.{Admitted, LockBelow, locks_after}
 use Rattle.notebook.specs.declared.notebook.Notebook.{Notebook}
 use Rattle.notebook.specs.View.{book}
 use Rattle.notebook.proofs.Logs.{length_events}

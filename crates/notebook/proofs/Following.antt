@@ -1,9 +1,9 @@
 -- Along a run the notebook follows its account: log, stamps and pairs are those of the account's events. Assumes nothing.
-use Rattle.std.proofs.Common.{◌≡◌, ℕ, suc, ◌+◌, ◌*◌, ◌<◌, ◌≤◌, true, List, [], ◌∷◌, ◌++◌, length, get_or, Some, None, Option, Result, sym, refl, ap, ◌∙◌, subst, ap₂, inl, mul-le-mul_right, suc-mul, arith}
+use Rattle.std.proofs.Common.{◌≡◌, ℕ, suc, ◌+◌, ◌*◌, ◌<◌, ◌≤◌, List, [], ◌∷◌, ◌++◌, length, Some, None, Option, Result, sym, refl, ap, ◌∙◌, subst, ap₂, inl, mul-le-mul_right, suc-mul, arith}
 use native.Mathlib.Decide.{dec_lt}
 use Rattle.std.proofs.lemmas.List.{length-set, length_push}
 use Rattle.std.proofs.lemmas.List.Edits.{length-paste}
-use Rattle.keep_list.specs.Kept.{Kept, kept, empty, added, all_added}
+use Rattle.keep_list.specs.Kept.{Kept, kept, empty, all_added}
 use Rattle.keep_list.proofs.Records.{all_added_append}
 use Rattle.clock_bank.specs.Rows.{Rows, fresh, entry}
 use Rattle.clock_bank.specs.Runs.{run}
@@ -15,7 +15,6 @@ use Rattle.events.specs.declared.event.Event.{Event}
 use Rattle.events.specs.Rules.{OrderRule, Lawful}
 use Rattle.orders.specs.declared.counts.Counts.{Counts}
 use Rattle.orders.specs.declared.pair.PositionPair.{PositionPair}
-use Rattle.orders.specs.Traces.{event, count}
 use Rattle.orders.specs.Accepted.{HasObject, Accepted}
 use Rattle.orders.specs.Stamps.{moved, after, stamp, unseen_by, pairs_with, found}
 use Rattle.orders.proofs.Slots.{takes_inside, posts_inside}
@@ -26,7 +25,7 @@ use Rattle.notebook.specs.declared.log.LoggedEvent.{LoggedEvent}
 use Rattle.notebook.specs.declared.notebook.Notebook.{Notebook}
 use Rattle.notebook.specs.Books.{Book, logged_events, events, stamp_held, admitted_counts}
 use Rattle.notebook.specs.Notes.{Setting, setting, event_fault, move_fault, note_fault, new_stamp, Note}
-use Rattle.notebook.specs.Runs.{Call, notes, asks, account, Start, made, accepted_by, Run, fresh_start, then_notes, then_asks}
+use Rattle.notebook.specs.Runs.{Call, notes, asks, Start, made, accepted_by, Run, fresh_start, then_notes, then_asks}
 use Rattle.notebook.specs.View.{book}
 use Rattle.notebook.proofs.Logs.{length_events}
 use Rattle.notebook.proofs.Entering.{more_events, added_more, new_event, old_event, count_most, Room, room_of}

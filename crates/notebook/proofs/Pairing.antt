@@ -1,12 +1,10 @@
 -- One position more in the pass over the log. Assumes nothing.
-use Rattle.std.proofs.Common.{◌≡◌, ℕ, zero, suc, ◌+◌, ◌<◌, ◌≤◌, Bool, true, false, cond, ◌&&◌, ltb, List, [], ◌∷◌, ◌++◌, length, get_or, take, drop, Some, sym, refl, ap, ◌∙◌, ap₂, add-one, arith}
+use Rattle.std.proofs.Common.{◌≡◌, ℕ, zero, suc, ◌+◌, ◌<◌, ◌≤◌, Bool, true, false, cond, ◌&&◌, ltb, List, [], ◌∷◌, ◌++◌, get_or, drop, Some, sym, refl, ap, ◌∙◌, ap₂, add-one, arith}
 use Rattle.std.specs.List.{slice_get}
-use Rattle.std.proofs.lemmas.List.{get_or-take, get_or-drop, append-nil}
+use Rattle.std.proofs.lemmas.List.{get_or-take, get_or-drop}
 use Rattle.std.proofs.lemmas.Bool.{and_left, and_right}
 use Rattle.keep_list.specs.Kept.{Kept, added, all_added, records}
 use Rattle.keep_list.proofs.Records.{all_added_append}
-use Rattle.events.specs.declared.event.Operation.{Operation}
-use Rattle.events.specs.declared.event.Operation.TheVariants.{Read, Write, Acquire, Release}
 use Rattle.events.specs.declared.event.Event.{Event}
 use Rattle.events.specs.Events.{kind_of}
 use Rattle.events.specs.Conflicts.{is_access, conflicts}
@@ -16,7 +14,6 @@ use Rattle.orders.specs.Pairs.{positions}
 use Rattle.orders.specs.Stamps.{unseen_by, pairs_with}
 use Rattle.notebook.specs.declared.log.LoggedEvent.{LoggedEvent}
 use Rattle.notebook.specs.Books.{Written, logged_events}
-use Rattle.notebook.specs.Places.{no_logged_event}
 use Rattle.clock_bank.specs.Runs.{run}
 use Rattle.notebook.specs.Parts.{Timed, paired}
 use Rattle.notebook.proofs.Logs.{event_at, record_at}

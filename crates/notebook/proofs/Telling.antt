@@ -1,5 +1,5 @@
 -- What a notebook that a run has reached tells: times, the order, and all pairs. Assumes nothing.
-use Rattle.std.proofs.Common.{◌≡◌, ℕ, ◌+◌, ◌*◌, ◌<◌, ◌≤◌, Bool, true, ◌&&◌, ltb, leb, ◌↔◌, List, length, get_or, take, Some, None, Ok, Err, Decides, Option, Result, sym, refl, ap, ◌∙◌, subst, ap₂, mul-le-mul, zero-add, arith}
+use Rattle.std.proofs.Common.{◌≡◌, ℕ, ◌+◌, ◌<◌, ◌≤◌, Bool, ◌&&◌, ltb, leb, ◌↔◌, List, length, get_or, take, None, Ok, Err, Decides, Result, sym, ap, ◌∙◌, subst, ap₂, mul-le-mul, zero-add, arith}
 use Rattle.std.specs.List.{slice_get}
 use Rattle.std.proofs.lemmas.Bool.{and_parts, ltb-true, leb-true, le-leb}
 use Rattle.keep_list.specs.Kept.{Kept, kept, empty, records, all_added, most}
@@ -26,10 +26,9 @@ use Rattle.orders.proofs.SameOrders.{SameRelations, turned, time_as, lists_as, t
 use Rattle.notebook.specs.declared.fault.NotebookFault.{NotebookFault}
 use Rattle.notebook.specs.declared.fault.NotebookFault.TheVariants.{NoThread, NoPosition}
 use Rattle.notebook.specs.declared.notebook.Notebook.{Notebook}
-use Rattle.notebook.specs.Places.{holder_number}
-use Rattle.notebook.specs.Books.{Book, events, stamp_held, admitted_counts}
-use Rattle.notebook.specs.Notes.{Setting, held_by}
-use Rattle.notebook.specs.Runs.{Call, Start, accepted_by, Run, InEveryRun}
+use Rattle.notebook.specs.Books.{events, stamp_held, admitted_counts}
+use Rattle.notebook.specs.Notes.{Setting}
+use Rattle.notebook.specs.Runs.{Start, accepted_by, InEveryRun}
 use Rattle.notebook.specs.Questions.{stamp_answer, before_answer, pair_found, pair_answer, KeepsAccount, OfOrder, TellsTime, TellsOrder, TellsTotal, TellsPair}
 use Rattle.notebook.specs.View.{book}
 use Rattle.notebook.proofs.Logs.{length_events}

@@ -1,5 +1,5 @@
 -- What an operation finds and does at its lock. Assumes nothing.
-use Rattle.std.specs.Prelude.{ℕ, Bool, true, false, cond, Some, None, Option, ◌==◌}
+use Rattle.std.specs.Prelude.{ℕ, Bool, true, false, Some, None, Option, ◌==◌}
 use Rattle.clock_bank.specs.Faults.{require, unless}
 use Rattle.events.specs.declared.event.Operation.{Operation}
 use Rattle.events.specs.declared.event.Operation.TheVariants.{Read, Write, Acquire, Release}

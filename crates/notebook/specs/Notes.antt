@@ -18,7 +18,7 @@ use Rattle.notebook.specs.declared.fault.NotebookFault.{NotebookFault}
 use Rattle.notebook.specs.declared.fault.NotebookFault.TheVariants.{Misfit, NoThread, NoObject, Full}
 use Rattle.notebook.specs.Faults.{from_bank, first}
 use Rattle.notebook.specs.Locks.{lock_fault}
-use Rattle.notebook.specs.Books.{Written, Book, events}
+use Rattle.notebook.specs.Books.{Book, events}
 
 -- what of a notebook stays as it was made: its counts, its rule's number, and the lengths of its log and its stamps
 pub record Setting : Type 0 where

@@ -1,5 +1,5 @@
 -- What is said of the first n events of a trace depends on these events alone. Assumes nothing.
-use Rattle.std.proofs.Common.{◌≡◌, ℕ, zero, suc, ◌+◌, ◌<◌, ◌≤◌, Bool, cond, ◌&&◌, eqb, ltb, List, [], ◌∷◌, ◌++◌, length, get_or, take, Some, Option, sym, refl, ap, ◌∙◌, subst, ap₂, arith}
+use Rattle.std.proofs.Common.{◌≡◌, ℕ, zero, suc, ◌<◌, ◌≤◌, Bool, cond, ◌&&◌, eqb, ltb, List, [], ◌∷◌, ◌++◌, length, get_or, take, Some, Option, sym, refl, ap, ◌∙◌, subst, ap₂, arith}
 use native.Mathlib.Decide.{le_ind}
 use Rattle.std.proofs.lemmas.List.{length-append, get_or_append_left, get_or_push, append-nil, append_assoc, take-append-le, take_all}
 use Rattle.events.specs.declared.event.Operation.{Operation}

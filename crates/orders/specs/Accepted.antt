@@ -4,7 +4,7 @@ use Rattle.events.specs.declared.event.Operation.{Operation}
 use Rattle.events.specs.declared.event.Operation.TheVariants.{Read, Write, Acquire, Release}
 use Rattle.events.specs.declared.event.Event.{Event}
 use Rattle.orders.specs.declared.counts.Counts.{Counts}
-use Rattle.orders.specs.Traces.{event, thread_at, operation_at}
+use Rattle.orders.specs.Traces.{thread_at, operation_at}
 
 -- the variable or lock of an operation is one that there is
 abbrev pub HasObject : Counts → Operation → Type 0

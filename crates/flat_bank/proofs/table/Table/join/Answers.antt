@@ -1,4 +1,4 @@
-use Rattle.std.proofs.Common.{◌≡◌, ℕ, ◌+◌, ◌<◌, ◌≤◌, max, ◌⊎◌, List, length, get_or, sym, ap, ◌∙◌, inr, arith, rules}
+use Rattle.std.proofs.Common.{◌≡◌, ℕ, ◌+◌, ◌<◌, ◌≤◌, ◌⊎◌, List, length, get_or, sym, ap, ◌∙◌, inr, arith, rules}
 use Rattle.std.proofs.lemmas.List.Edits.{paste_none}
 use Rattle.clock_bank.specs.Rows.{larger}
 use Rattle.flat_bank.specs.Flat.{run}

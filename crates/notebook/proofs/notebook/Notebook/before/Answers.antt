@@ -1,4 +1,4 @@
-use Rattle.std.proofs.Common.{◌≡◌, ℕ, Bool, leb, Ok, Err, Result, sym, ap, ◌∙◌, subst}
+use Rattle.std.proofs.Common.{◌≡◌, ℕ, Bool, leb, Ok, Err, Result, ap, ◌∙◌}
 use Rattle.std.proofs.lemmas.Result.{err_from_is_err_and}
 use Rattle.notebook.specs.declared.fault.NotebookFault.{NotebookFault}
 use Rattle.notebook.specs.declared.fault.NotebookFault.TheVariants.{NoPosition}

@@ -2,7 +2,7 @@ use Rattle.std.proofs.Common.{◌≡◌, Bool, length, None, sym, ap, ◌∙◌}
 use Rattle.keep_list.specs.Kept.{kept}
 use Rattle.clock_bank.specs.Faults.{or_fault, require}
 use Rattle.notebook.specs.declared.fault.NotebookFault.TheVariants.{Full}
-use Rattle.notebook.specs.Books.{Written, Book, events}
+use Rattle.notebook.specs.Books.{Book, events}
 use Rattle.notebook.specs.Notes.{setting, has_room, admission}
 use Rattle.notebook.specs.View.{book}
 use Rattle.notebook.proofs.Logs.{length_events}

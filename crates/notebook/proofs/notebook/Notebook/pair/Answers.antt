@@ -1,4 +1,4 @@
-use Rattle.std.proofs.Common.{◌≡◌, ℕ, length, Ok, Err, Option, Result, ap}
+use Rattle.std.proofs.Common.{◌≡◌, ℕ, length, Ok, Err, Result, ap}
 use Rattle.orders.specs.declared.pair.PositionPair.{PositionPair}
 use Rattle.notebook.specs.declared.fault.NotebookFault.{NotebookFault}
 use Rattle.notebook.specs.declared.fault.NotebookFault.TheVariants.{NotHeld}

@@ -1,5 +1,4 @@
-use Rattle.std.proofs.Common.{◌≡◌, ℕ, ◌<◌, ◌≤◌, Ok, Err, Result, ap, ◌∙◌, arith}
-use Rattle.keep_list.specs.Kept.{kept}
+use Rattle.std.proofs.Common.{◌≡◌, ℕ, Err, Result, arith}
 use Rattle.notebook.specs.declared.fault.NotebookFault.{NotebookFault}
 use Rattle.notebook.specs.declared.fault.NotebookFault.TheVariants.{NoThread, NoPosition}
 use Rattle.notebook.specs.declared.notebook.Notebook.{Notebook}

@@ -2,7 +2,6 @@ use Rattle.std.proofs.Common.{◌≡◌, ℕ, ◌+◌, List, [], length, get_or,
 use lib.Seq.{paste}
 use Rattle.std.proofs.lemmas.List.Edits.{paste_none, paste_more}
 use Rattle.clock_bank.specs.declared.fault.BankFault.{BankFault}
-use Rattle.clock_bank.specs.Rows.{entry}
 use Rattle.clock_bank.specs.Faults.{or_fault}
 use Rattle.clock_bank.proofs.Refusals.{ok_is, thread_entry_there}
 use Rattle.notebook.specs.declared.tables.Stamps.{Stamps}
