@@ -4,7 +4,9 @@ use anyhow::anyhow;
 use clock_bank::bank::Bank;
 use clock_bank::fault::BankFault;
 use events::event::Event;
+use events::happens_before::HappensBefore;
 use events::rule::Rule;
+use events::schedulable::Schedulable;
 use flat_bank::FlatBank;
 use std::alloc::{AllocError, Global};
 
@@ -53,8 +55,8 @@ pub fn replay(heap: Global, run: &Run, order: u16) -> anyhow::Result<Vec<Vec<u32
     }
     let mut bank = FlatBank::new(run.threads, slots, table.as_mut_slice());
     match order {
-        1 => advance_all::<_, events::happens_before::HappensBefore>(heap, &mut bank, run),
-        2 => advance_all::<_, events::schedulable::Schedulable>(heap, &mut bank, run),
+        1 => advance_all::<_, HappensBefore>(heap, &mut bank, run),
+        2 => advance_all::<_, Schedulable>(heap, &mut bank, run),
         _ => Err(anyhow!("no such order")),
     }
 }
