@@ -2,6 +2,7 @@
 // under any order rule.
 #![tactic(auto)]
 
+mod admission;
 mod calls;
 pub mod fault;
 pub mod lock;

@@ -1,34 +1,101 @@
 // Note: an event more, with its stamp and its pairs.
-ghost use Rattle.std.specs.Prelude.{◌≡◌, true, [], length, None, slice_index_or};
-ghost use Rattle.clock_bank.specs.Faults.{or_fault, unless, require};
-ghost use Rattle.events.specs.Events.{object_of};
-ghost use Rattle.orders.specs.Stamps.{moved};
-ghost use Rattle.notebook.specs.declared.fault.NotebookFault.TheVariants.{Full};
-ghost use Rattle.notebook.specs.Locks.{lock_fault};
-ghost use Rattle.notebook.specs.Books.{events};
-ghost use Rattle.notebook.specs.Notes.{setting, fits, is_object_of, held_by, admission, event_fault, move_fault, noted, Note};
-ghost use Rattle.notebook.specs.Parts.{Admitted, LockBelow, locks_after};
+ghost use Rattle.std.specs.Prelude.{◌≡◌, ◌+◌, ◌*◌, ◌<◌, ◌≤◌, [], length, slice_index_or};
+ghost use Rattle.std.proofs.Math.Seq.{paste};
+ghost use Rattle.keep_list.specs.Kept.{kept};
+ghost use Rattle.clock_bank.specs.Runs.{run};
+ghost use Rattle.clock_bank.specs.Faults.{or_fault, unless};
+ghost use Rattle.orders.specs.Stamps.{moved, unseen_by};
+ghost use Rattle.notebook.specs.Books.{logged_events, events};
+ghost use Rattle.notebook.specs.Notes.{move_fault, noted, Note};
+ghost use Rattle.notebook.specs.Parts.{Timed, paired, stamped, Admitted, LockBelow, locks_after};
+ghost use Rattle.notebook.specs.Tables.{written};
 ghost use Rattle.notebook.specs.View.{book};
 
 use crate::fault::NotebookFault;
 use crate::lock::Lock;
 use crate::log::LoggedEvent;
 use crate::notebook::Notebook;
+use crate::tables::{Stamps, Tables};
 use clock_bank::bank::Bank;
 use clock_bank::fault::BankFault;
 use events::event::{Event, Operation};
 use events::rule::Rule;
-use orders::counts::Counts;
+use orders::pair::PositionPair;
 
-// Whether the variable or lock of an operation is one that there is.
-fn has_object(counts: Counts, operation: Operation) -> bool
-    ensures { result ≡ is_object_of counts operation }
-{
-    match operation {
-        Operation::Read(v) => v < counts.variables,
-        Operation::Write(v) => v < counts.variables,
-        Operation::Acquire(l) => l < counts.locks,
-        Operation::Release(l) => l < counts.locks,
+impl<'a> Stamps<'a> {
+    // Writes a thread's row of the bank from a place on.
+    fn write_row<B: Bank>(&mut self, start: usize, bank: &B, thread: u16)
+        requires thread_in_bounds { thread < length (B.Bank.rows bank.now).threads }
+        requires bank_in_bounds { start + length (B.Bank.rows bank.now).threads ≤ length self.old.cells.now }
+        ensures { self.new.cells.now ≡ paste self.old.cells.now start (slice_index_or (B.Bank.rows bank.now).threads thread []) (length (B.Bank.rows bank.now).threads) }
+    {
+        for column in 0..bank.thread_count() {
+            if let Ok(entry) = bank.thread_entry(thread, column) {
+                self.cells[start + column as usize] = entry;
+            }
+        }
+    }
+}
+
+impl<'a> Tables<'a> {
+    // Whether the event at an earlier position is unseen by a later one, whose stamp begins at `start`.
+    fn races(&mut self, earlier: u16, event: Event, threads: u16, start: usize) -> bool
+        requires timed { Timed (kept self.old.log) threads (earlier + 1) }
+        requires threads_in_bounds { start + threads ≤ length self.old.stamps.cells.now }
+        ensures same { written self.new ≡ written self.old }
+        ensures value { result ≡ unseen_by (logged_events (kept self.old.log)) event (run start threads self.old.stamps.cells.now) earlier }
+    {
+        match self.log.get(earlier as u32) {
+            None => false,
+            Some(logged) => {
+                let known = self.stamps.cells[start + logged.event.thread as usize];
+                logged.unseen_by(event, known)
+            }
+        }
+    }
+
+    // Adds the pairs of the event at `position` with all earlier ones.
+    fn scan(&mut self, event: Event, threads: u16, position: u16, start: usize)
+        requires timed { Timed (kept self.old.log) threads position }
+        requires threads_in_bounds { start + threads ≤ length self.old.stamps.cells.now }
+        ensures { written self.new ≡ paired (written self.old) event (run start threads self.old.stamps.cells.now) position position }
+    {
+        // the pairs with the positions passed are added, and nothing else has changed
+        for earlier in 0..position {
+            if self.races(earlier, event, threads, start) {
+                self.pairs.add(PositionPair {
+                    earlier,
+                    later: position,
+                });
+            }
+        }
+    }
+
+    // The same; an acquire or a release conflicts with nothing, so that nothing has to be passed.
+    fn pair_up(&mut self, event: Event, threads: u16, position: u16, start: usize)
+        requires timed { Timed (kept self.old.log) threads position }
+        requires threads_in_bounds { start + threads ≤ length self.old.stamps.cells.now }
+        ensures { written self.new ≡ paired (written self.old) event (run start threads self.old.stamps.cells.now) position position }
+    {
+        match event.operation {
+            Operation::Read(_) => self.scan(event, threads, position, start),
+            Operation::Write(_) => self.scan(event, threads, position, start),
+            Operation::Acquire(_) => {}
+            Operation::Release(_) => {}
+        }
+    }
+
+    // Writes the stamp of the event at `position`, its thread's row of the bank, and adds its pairs.
+    fn stamp<B: Bank>(&mut self, bank: &B, event: Event, position: u16)
+        requires timed { Timed (kept self.old.log) (length (B.Bank.rows bank.now).threads) position }
+        requires thread_in_bounds { event.thread < length (B.Bank.rows bank.now).threads }
+        requires bank_in_bounds { position * length (B.Bank.rows bank.now).threads + length (B.Bank.rows bank.now).threads ≤ length self.old.stamps.cells.now }
+        ensures { written self.new ≡ stamped (written self.old) event (slice_index_or (B.Bank.rows bank.now).threads event.thread []) (length (B.Bank.rows bank.now).threads) position }
+    {
+        let threads = bank.thread_count();
+        let start = position as usize * threads as usize;
+        self.stamps.write_row(start, bank, event.thread);
+        self.pair_up(event, threads, position, start);
     }
 }
 
@@ -46,72 +113,6 @@ fn change_lock(locks: &mut [Lock; 256], event: Event)
 }
 
 impl<'a> Notebook<'a> {
-    // Whether a bank of these counts and a rule of this number are those that the notebook is for.
-    fn fits(&self, threads: u16, slots: u32, rule: u16) -> bool
-        ensures { result ≡ fits (setting (book self.now)) threads slots rule }
-    {
-        let needed = self.counts.locks as u32 + self.counts.variables as u32;
-        (threads == self.counts.threads) & (slots == needed) & (rule == self.rule)
-    }
-
-    // Why an event is refused at its lock, or none.
-    fn lock_refusal(&self, event: Event) -> Option<NotebookFault>
-        requires { is_object_of self.now.counts event.operation ≡ true }
-        ensures { result ≡ lock_fault (held_by (events (book self.now)) (object_of event.operation)) event.thread event.operation }
-    {
-        match event.operation {
-            Operation::Read(_) => None,
-            Operation::Write(_) => None,
-            Operation::Acquire(l) => self.locks[l as usize].refusal(event.thread, event.operation),
-            Operation::Release(l) => self.locks[l as usize].refusal(event.thread, event.operation),
-        }
-    }
-
-    // Why an event is refused: `room` says whether there is room for it.
-    fn admit(
-        &self,
-        threads: u16,
-        slots: u32,
-        rule: u16,
-        event: Event,
-        room: bool,
-    ) -> Result<(), NotebookFault>
-        ensures { result ≡ or_fault (admission (setting (book self.now)) threads slots rule (events (book self.now)) event (require room Full None)) tt }
-    {
-        if !self.fits(threads, slots, rule) {
-            return Err(NotebookFault::Misfit);
-        }
-        if event.thread >= self.counts.threads {
-            return Err(NotebookFault::NoThread);
-        }
-        if !has_object(self.counts, event.operation) {
-            return Err(NotebookFault::NoObject);
-        }
-        if let Some(fault) = self.lock_refusal(event) {
-            return Err(fault);
-        }
-        if room {
-            Ok(())
-        } else {
-            Err(NotebookFault::Full)
-        }
-    }
-
-    // Whether an event can be noted, before its bank is asked.
-    fn check_event(
-        &mut self,
-        threads: u16,
-        slots: u32,
-        rule: u16,
-        event: Event,
-    ) -> Result<(), NotebookFault>
-        ensures same { book self.new ≡ book self.old }
-        ensures answer { result ≡ or_fault (event_fault (setting (book self.old)) threads slots rule (events (book self.old)) event) tt }
-    {
-        let room = self.tables.has_room(self.counts.threads);
-        self.admit(threads, slots, rule, event, room)
-    }
-
     // Writes down an event whose thread has its new row in the bank, and answers its position.
     fn enter<B: Bank>(&mut self, bank: &B, event: Event) -> u16
         requires bank_len { length (B.Bank.rows bank.now).threads ≡ self.old.counts.threads }
