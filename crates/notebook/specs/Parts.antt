@@ -1,5 +1,5 @@
 -- What the parts of a note do to the locks and the tables. Assumes nothing.
-use Rattle.std.specs.Prelude.{◌≡◌, ℕ, ◌*◌, ◌<◌, ◌≤◌, true, List, length, get_or, None, slice_index_or, slice_set}
+use Rattle.std.specs.Prelude.{◌≡◌, ℕ, ◌*◌, ◌<◌, ◌≤◌, true, List, length, None, slice_index_or, slice_set}
 use Rattle.std.proofs.Math.Seq.{paste}
 use Rattle.keep_list.specs.Kept.{Kept, all_added}
 use Rattle.events.specs.declared.event.Operation.{Operation}
@@ -45,7 +45,7 @@ pub record Timed (log : Kept LoggedEvent) (k n : ℕ) : Type 0 where
   pub within : n ≤ log.total
   pub whole : log.total ≤ length log.table
   pub inside : (i : ℕ) → i < log.total → thread_at (logged_events log) i < k
-  pub timed : (i : ℕ) → i < log.total → (get_or log.table i no_logged_event).time ≡ local (logged_events log) i
+  pub timed : (i : ℕ) → i < log.total → (slice_index_or log.table i no_logged_event).time ≡ local (logged_events log) i
 
 -- the tables with the pairs of an event, whose stamp is row, with the positions below i
 abbrev pub paired : Written → Event → List ℕ → ℕ → ℕ → Written
