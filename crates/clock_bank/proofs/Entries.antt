@@ -1,7 +1,7 @@
 -- The lengths and the numbers of rows, fresh and after an advance. Assumes nothing.
-use Rattle.std.proofs.Common.{◌≡◌, ℕ, zero, suc, ◌<◌, max, List, [], ◌∷◌, length, get_or, set, replicate, Some, None, Option, sym, refl, ap, ◌∙◌, arith}
+use Rattle.std.proofs.Common.{◌≡◌, ℕ, zero, suc, ◌<◌, max, List, [], ◌∷◌, length, get_or, set, replicate, Some, None, Option, sym, refl, ap, ◌∙◌, arith, rules}
 use native.Mathlib.Decide.{ℕ_discrete}
-use Rattle.std.proofs.lemmas.List.{length-set, length-replicate, get_or-replicate, get_or-set_same, get_or-set_other}
+use Rattle.std.proofs.lemmas.List.{places, length-set, length-replicate}
 use Rattle.clock_bank.specs.Rows.{Rows, Shaped, fresh, entry, grown, larger, new_row, advanced}
 
 pub length_larger : (xs ys : List ℕ) → length (larger xs ys) ≡ length xs
@@ -41,19 +41,18 @@ sized threads slots lines posts = record {
 
 pub fresh_sized : (k s : ℕ) → Sized k s (fresh k s)
 fresh_sized k s = sized (length-replicate k (replicate k 0)) (length-replicate s (replicate k 0))
-    (λ t h. ap length (get_or-replicate k t (replicate k 0) [] h) ∙ length-replicate k 0)
-    (λ p h. ap length (get_or-replicate s p (replicate k 0) [] h) ∙ length-replicate k 0)
+    (λ t h. search (rules, places)) (λ p h. search (rules, places))
 
 -- every number of fresh rows is 0
 pub fresh_entry : (k n t u : ℕ) → t < n → u < k → entry (replicate n (replicate k 0)) t u ≡ 0
-fresh_entry k n t u h l = ap (λ row. get_or row u 0) (get_or-replicate n t (replicate k 0) [] h) ∙ get_or-replicate k u 0 0 l
+fresh_entry k n t u h l = search (rules, places)
 
 -- a row in the place of another keeps their lengths
 set_long : (k : ℕ) (rows : List (List ℕ)) (at : ℕ) (row : List ℕ) → length row ≡ k → ((t : ℕ) → t < length rows → length (get_or rows t []) ≡ k)
     → (t : ℕ) → t < length rows → length (get_or (set rows at row) t []) ≡ k
 set_long k rows at row long all t h = elim (ℕ_discrete t at) [
-  | yes e ↦ rw (e, get_or-set_same rows at row [] (omega arith)) long
-  | no e ↦ ap length (get_or-set_other rows at t row [] e) ∙ all t h
+  | yes e ↦ rw e (search (rules, places))
+  | no e ↦ search (rules, places)
 ]
 
 pub length_new_row : (r : Rows) (t : ℕ) (take : Option ℕ) → length (new_row r t take) ≡ length (get_or r.threads t [])

@@ -1,4 +1,3 @@
-pub mod Advance
 pub mod Entries
 pub mod Refusals
 pub mod Runs

@@ -1,5 +1,5 @@
--- When a bank's calls are refused, and by which number. Assumes nothing.
-use Rattle.std.specs.Prelude.{ℕ, Bool, true, cond, ◌&&◌, length, Some, None, Ok, Err, Option, Result, nat_le, nat_lt}
+-- When a bank's calls are refused, by which number and with which words. Assumes nothing.
+use Rattle.std.specs.Prelude.{ℕ, Bool, true, if◌then◌else◌, ◌&&◌, List, codes, length, Some, None, Ok, Err, Option, Result, nat_le, nat_lt}
 use Rattle.clock_bank.specs.declared.fault.BankFault.{BankFault}
 use Rattle.clock_bank.specs.declared.fault.BankFault.TheVariants.{ThreadCount, SlotCount, TableShort, NoThread, NoSlot, EntryLimit}
 use Rattle.clock_bank.specs.Rows.{Rows, entry}
@@ -11,6 +11,15 @@ number_of TableShort = 3
 number_of NoThread = 4
 number_of NoSlot = 5
 number_of EntryLimit = 6
+
+-- the reason of a refusal, as it is printed
+abbrev pub reason_of : BankFault → List ℕ
+reason_of ThreadCount = codes "a bank has 1 to 32 threads"
+reason_of SlotCount = codes "a bank has at most 1280 slots"
+reason_of TableShort = codes "the table is too short"
+reason_of NoThread = codes "no thread has that number"
+reason_of NoSlot = codes "no slot has that number"
+reason_of EntryLimit = codes "the thread's own entry is at its largest"
 
 -- the answer of a call: its fault, or else a value
 abbrev pub or_fault : {X E : Type 0} → Option E → X → Result X E
@@ -24,7 +33,7 @@ unless (Some f) new old = old
 
 -- a condition of a call: with it what comes next, without it a fault
 abbrev pub require : {E : Type 0} → Bool → E → Option E → Option E
-require b f next = cond b next (Some f)
+require b f next = if b then next else Some f
 
 -- k threads and s slots over a table that has some places and needs so many
 abbrev pub count_fault : ℕ → ℕ → ℕ → ℕ → Option BankFault

@@ -2,4 +2,6 @@
 #![tactic(auto)]
 
 pub mod bank;
+pub mod counts;
 pub mod fault;
+pub mod slots;

@@ -1,3 +1,4 @@
 pub mod Events
 pub mod Conflicts
 pub mod Rules
+pub mod Texts

@@ -2,7 +2,7 @@
 use Rattle.std.specs.Prelude.{◌≡◌, ℕ, ◌+◌, Some, None, Option}
 use Rattle.events.specs.declared.event.Operation.{Operation}
 use Rattle.events.specs.declared.event.Operation.TheVariants.{Read, Write, Acquire, Release}
-use Rattle.events.specs.declared.rule.Slots.{Slots}
+use Rattle.clock_bank.specs.declared.slots.Slots.{Slots}
 
 -- a rule has a number, and tells for a number of locks and an operation the slot to take from and the slot to post to
 pub record OrderRule : Type 0 where

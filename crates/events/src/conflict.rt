@@ -1,12 +1,12 @@
 // Which events conflict: those of two threads that touch one variable, where at least one writes.
-ghost use Rattle.std.specs.Prelude.{◌≡◌, Decides};
+ghost use Rattle.std.specs.Prelude.{◌≡◌, ◌↔◌, IsTrue};
 ghost use Rattle.events.specs.Events.{kind_of, object_of};
-ghost use Rattle.events.specs.Conflicts.{table_of_kinds, clashes, Conflict, conflicts};
+ghost use Rattle.events.specs.Conflicts.{table_of_kinds, is_access, clashes, Conflict, conflicts};
 
 use crate::event::{Event, Operation};
 
 // The kind of an operation, without its variable or lock.
-#[derive(Clone, Copy)]
+#[derive(Clone, Copy, PartialEq, Eq, Debug)]
 pub enum Kind {
     Read,
     Write,
@@ -14,8 +14,9 @@ pub enum Kind {
     Release,
 }
 
-// For one kind, whether it can conflict with each kind, in the order of their declaration.
-#[derive(Clone, Copy)]
+// For one kind, whether it can conflict with each kind, in the order of their declaration: the table of kinds is one
+// constant of such rows.
+#[derive(Clone, Copy, PartialEq, Eq, Debug)]
 pub struct KindRow {
     pub with: [bool; 4],
 }
@@ -43,6 +44,7 @@ pub fn kind_table() -> [KindRow; 4]
 }
 
 impl Operation {
+    // A method and no `From`: the test of two events names what it asks for.
     pub fn kind(self) -> Kind
         ensures { result ≡ kind_of self }
     {
@@ -59,11 +61,16 @@ impl Operation {
         ensures { result ≡ object_of self }
     {
         match self {
-            Operation::Read(v) => v,
-            Operation::Write(v) => v,
-            Operation::Acquire(l) => l,
-            Operation::Release(l) => l,
+            Operation::Read(v) | Operation::Write(v) => v,
+            Operation::Acquire(l) | Operation::Release(l) => l,
         }
+    }
+
+    // Whether it is a read or a write.
+    pub fn is_access(self) -> bool
+        ensures { result ≡ is_access (kind_of self) }
+    {
+        matches!(self, Operation::Read(_) | Operation::Write(_))
     }
 }
 
@@ -80,7 +87,7 @@ impl Event {
     // Whether two events conflict.
     pub fn conflicts_with(self, other: Event) -> bool
         ensures test { result ≡ conflicts self other }
-        ensures means { Decides result (Conflict self other) }
+        ensures means { IsTrue result ↔ Conflict self other }
     {
         let clash = self.operation.kind().clashes(other.operation.kind());
         let touch = self.operation.object() == other.operation.object();

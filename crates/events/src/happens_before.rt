@@ -3,36 +3,28 @@ ghost use Rattle.events.specs.Rules.{happens_before};
 ghost use Rattle.std.proofs.Common.{rules};
 
 use crate::event::Operation;
-use crate::rule::{Rule, Slots};
+use crate::rule::Rule;
+use clock_bank::slots::Slots;
 
-#[derive(Clone, Copy)]
+#[derive(Clone, Copy, PartialEq, Eq, Debug)]
 pub struct HappensBefore;
 
 impl Rule for HappensBefore {
     ghost means = { happens_before };
 
+    ghost NUMBER = { 1 };
+
     const NUMBER: u16 = 1;
+
+    ghost numbered = { Prim.search rules };
 
     ghost lawful = { Prim.search rules };
 
-    fn rule_number() -> u16 {
-        Self::NUMBER
-    }
-
-    fn slots(operation: Operation, locks: u16) -> Slots {
+    fn slots(operation: Operation, _locks: u16) -> Slots {
         match operation {
-            Operation::Acquire(l) => Slots {
-                take: Some(l as u32),
-                post: None,
-            },
-            Operation::Release(l) => Slots {
-                take: None,
-                post: Some(l as u32),
-            },
-            Operation::Read(_) | Operation::Write(_) => Slots {
-                take: None,
-                post: None,
-            },
+            Operation::Acquire(l) => Slots::take_from(l.into()),
+            Operation::Release(l) => Slots::post_to(l.into()),
+            Operation::Read(_) | Operation::Write(_) => Slots::NONE,
         }
     }
 }

@@ -6,3 +6,4 @@ pub mod event;
 pub mod happens_before;
 pub mod rule;
 pub mod schedulable;
+pub mod text;

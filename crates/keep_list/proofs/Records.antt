@@ -32,10 +32,10 @@ length_all_added k (x ∷ xs) = length_all_added (added k x) xs ∙ length_added
 
 -- several records more, where counting does not stop: all are counted, and those that find a place are held
 module _ {X : Type 0} where
-  abbrev more : Kept X → X → Kept X
+  abbrev pub more : Kept X → X → Kept X
   more k x = record { table = set k.table k.total x; total = k.total + 1 }
 
-  added_more : (k : Kept X) (x : X) → k.total < most → added k x ≡ more k x
+  pub added_more : (k : Kept X) (x : X) → k.total < most → added k x ≡ more k x
   added_more k x h = sym (added_is k _ x h refl)
 
   pub total_all_added : (k : Kept X) (xs : List X) → k.total + length xs ≤ most → (all_added k xs).total ≡ k.total + length xs

@@ -1,13 +1,9 @@
 -- What a keep-list means: the table that it was lent, and how many records it was given. Assumes nothing.
-use Rattle.std.specs.Prelude.{ℕ, ◌+◌, cond, List, [], ◌∷◌, take, nat_lt, slice_set}
-use Rattle.keep_list.specs.declared.KeepList.{KeepList}
+use Rattle.std.specs.Prelude.{ℕ, ◌+◌, if◌then◌else◌, List, [], ◌∷◌, take, nat_lt, slice_set}
 
 pub record Kept (X : Type 0) : Type 0 where
   pub table : List X
   pub total : ℕ
-
-abbrev pub kept : {X : Type 0} → KeepList X → Kept X
-kept k = record { table = k.table.now; total = k.total }
 
 -- given nothing yet, over a table as it is lent
 abbrev pub empty : {X : Type 0} → List X → Kept X
@@ -23,7 +19,7 @@ most = 4294967295
 
 -- one record more: it has the next place, if the table has one; at the largest number nothing changes
 abbrev pub added : {X : Type 0} → Kept X → X → Kept X
-added k x = cond (nat_lt k.total most) (record { table = slice_set k.table k.total x; total = k.total + 1 }) k
+added k x = if nat_lt k.total most then record { table = slice_set k.table k.total x; total = k.total + 1 } else k
 
 -- several records more, one after another
 abbrev pub all_added : {X : Type 0} → Kept X → List X → Kept X

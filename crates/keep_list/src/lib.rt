@@ -2,73 +2,79 @@
 // and counts all that it is given, also what found no place.
 #![tactic(auto)]
 
-ghost use Rattle.std.specs.Prelude.{◌≡◌, length};
-ghost use Rattle.std.specs.List.{slice_get};
-ghost use Rattle.keep_list.specs.Kept.{empty, added, records, kept};
+use std::marker::Model;
 
+// The questions take it for writing, as it holds its table, and promise no change.
 #[derive(Drop)]
 pub struct KeepList<'a, T> {
     table: &'a mut [T],
     total: u32,
 }
 
+impl<'a, T> Model for KeepList<'a, T> {
+    ghost use Rattle.keep_list.specs.Kept.{Kept};
+
+    ghost Value = { Kept T };
+
+    ghost view = { λ k. record { table = k.table.now; total = k.total } };
+}
+
 impl<'a, T: Copy> KeepList<'a, T> {
+    ghost use Rattle.std.specs.Prelude.{◌≡◌, length};
+    ghost use Rattle.std.specs.List.{slice_get};
+    ghost use Rattle.keep_list.specs.Kept.{empty, added, records};
+
     // A keep-list that was given nothing yet; the table stays as it is lent.
     pub fn new(table: &'a mut [T]) -> KeepList<'a, T>
-        ensures { kept result ≡ empty table.old }
+        ensures { result ≡ empty table.old }
     {
         KeepList { table, total: 0 }
     }
 
     // Counts one record more, and stores it where the table has a place for it.
-    pub fn add(&mut self, record: T)
-        ensures { kept self.new ≡ added (kept self.old) «record» }
+    pub fn add(&mut self, item: T)
+        ensures { self.new ≡ added self.old item }
     {
         if self.total == u32::MAX {
             return;
         }
         let place = self.total as usize;
         if place < self.table.len() {
-            self.table[place] = record;
+            self.table[place] = item;
         }
         self.total += 1;
     }
 
     // How many records it was given.
     pub fn total(&mut self) -> u32
-        ensures same { kept self.new ≡ kept self.old }
-        ensures value { result ≡ (kept self.old).total }
+        ensures same { self.new ≡ self.old }
+        ensures value { result ≡ self.old.total }
     {
         self.total // also those that found no place
     }
 
     // How many of them the table holds.
     pub fn held(&mut self) -> u32
-        ensures same { kept self.new ≡ kept self.old }
-        ensures value { result ≡ length (records (kept self.old)) }
+        ensures same { self.new ≡ self.old }
+        ensures value { result ≡ length (records self.old) }
     {
-        let places = self.table.len();
-        if places < self.total as usize {
-            places as u32
-        } else {
-            self.total
-        }
+        self.table.len().min(self.total as usize) as u32
     }
 
     // How many records the table has places for.
     pub fn places(&mut self) -> usize
-        ensures same { kept self.new ≡ kept self.old }
-        ensures value { result ≡ length (kept self.old).table }
+        ensures same { self.new ≡ self.old }
+        ensures value { result ≡ length self.old.table }
     {
         self.table.len() // also those that are free
     }
 
     // The record at an index, or none.
     pub fn get(&mut self, index: u32) -> Option<T>
-        ensures same { kept self.new ≡ kept self.old }
-        ensures value { result ≡ slice_get (records (kept self.old)) index }
+        ensures same { self.new ≡ self.old }
+        ensures value { result ≡ slice_get (records self.old) index }
     {
-        if index < self.total && (index as usize) < self.table.len() {
+        if index < self.held() {
             Some(self.table[index as usize])
         } else {
             None
