@@ -1,3 +1,2 @@
-pub mod Runs
-pub mod Entries
-pub mod Moves
+pub mod Larger
+pub mod RowsIn

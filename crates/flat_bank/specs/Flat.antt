@@ -4,10 +4,6 @@ use Rattle.clock_bank.specs.declared.fault.BankFault.{BankFault}
 use Rattle.clock_bank.specs.Faults.{count_fault}
 use Rattle.clock_bank.specs.Rows.{Rows}
 
--- n numbers from a place on
-abbrev pub run : ℕ → ℕ → List ℕ → List ℕ
-run at n cells = take n (drop at cells)
-
 -- n rows of k numbers
 abbrev pub rows_in : ℕ → ℕ → List ℕ → List (List ℕ)
 rows_in zero k cells = []
@@ -15,7 +11,7 @@ rows_in (suc n) k cells = take k cells ∷ rows_in n k (drop k cells)
 
 -- k thread rows, then s slot rows
 abbrev pub flat_rows : ℕ → ℕ → List ℕ → Rows
-flat_rows k s cells = record { threads = take k (rows_in (k + s) k cells); slots = drop k (rows_in (k + s) k cells) }
+flat_rows k s cells = record { threads = rows_in k k cells; slots = rows_in s k (drop (k * k) cells) }
 
 -- how many numbers a flat bank of k threads and s slots needs
 abbrev pub places : ℕ → ℕ → ℕ

@@ -1,222 +1,135 @@
-// What an advance does to runs of the table, and the calls of the flat bank.
-ghost use Rattle.std.specs.Prelude.{◌≡◌, ◌+◌, ◌*◌, ◌<◌, ◌≤◌, true, length, None, slice_index};
-ghost use Rattle.std.proofs.Math.Seq.{paste};
-ghost use Rattle.clock_bank.specs.Rows.{fresh, entry, larger, advanced};
-ghost use Rattle.clock_bank.specs.Steps.{growing, taking, posting};
-ghost use Rattle.clock_bank.specs.Faults.{or_fault, unless, is_slot_of, advance_fault};
-ghost use Rattle.flat_bank.specs.Flat.{run, places, flat_fault, cleared};
+// What an advance makes of the rows in a table, and what the flat bank does as a clock bank.
+ghost use Rattle.std.specs.Prelude.{◌≡◌, ◌+◌, ◌*◌, ◌<◌, ◌≤◌, None, length, drop, slice_index};
+ghost use Rattle.clock_bank.specs.Rows.{entry, larger, grown, joined, posted, advanced};
+ghost use Rattle.clock_bank.specs.Runs.{run};
+ghost use Rattle.clock_bank.specs.Faults.{or_fault, unless, step_fault, advance_fault};
+ghost use Rattle.flat_bank.specs.Flat.{rows_in, flat_rows, places};
 ghost use Rattle.flat_bank.specs.Shape.{flat_shaped};
-ghost use Rattle.flat_bank.specs.View.{view, rest, Becomes};
+ghost use Rattle.flat_bank.specs.View.{view, rest};
 
 use crate::flat::FlatBank;
-use crate::table::Table;
 use clock_bank::bank::Bank;
-use clock_bank::fault::{BankFault, check_advance, check_counts};
+use clock_bank::counts::BankCounts;
+use clock_bank::fault::BankFault;
+use clock_bank::slots::Slots;
 
-impl<'a> Table<'a> {
-    // The first `count` numbers become 0.
-    fn clear(&mut self, count: usize)
-        requires { count ≤ length self.old.cells.now }
-        ensures { self.new.cells.now ≡ cleared count self.old.cells.now }
-    {
-        for i in 0..count {
-            self.cells[i] = 0;
-        }
-    }
-
-    // The `width` numbers at `to` become the larger of themselves and those at `from`, which lie behind them.
-    fn join(&mut self, to: usize, from: usize, width: usize)
-        requires width_bound { to + width ≤ from }
-        requires width_in_bounds { from + width ≤ length self.old.cells.now }
-        ensures { self.new.cells.now ≡ paste self.old.cells.now to (larger (run to width self.old.cells.now) (run from width self.old.cells.now)) width }
-    {
-        for i in 0..width {
-            let mine = self.cells[to + i];
-            let theirs = self.cells[from + i];
-            self.cells[to + i] = mine.max(theirs);
-        }
-    }
-
-    // The `width` numbers at `to` become those at `from`, which lie before them.
-    fn copy(&mut self, to: usize, from: usize, width: usize)
-        requires width_bound { from + width ≤ to }
-        requires width_in_bounds { to + width ≤ length self.old.cells.now }
-        ensures { self.new.cells.now ≡ paste self.old.cells.now to (run from width self.old.cells.now) width }
-    {
-        for i in 0..width {
-            self.cells[to + i] = self.cells[from + i];
-        }
-    }
-}
-
-fn needed(threads: u16, slots: u32) -> usize
-    ensures { result ≡ places threads slots }
+// Each number becomes the larger of itself and the other row's.
+#[tactic(auto, using(crate::proofs::Larger::joining))]
+fn join(row: &mut [u32], other: &[u32])
+    requires { length row.old ≡ length other.now }
+    ensures { row.new ≡ larger row.old other.now }
 {
-    (threads as usize + slots as usize) * threads as usize
-}
-
-impl<'a> FlatBank<'a> {
-    // Whether a bank of these counts can stand on this table.
-    pub fn check(threads: u16, slots: u32, table: &[u32]) -> Result<(), BankFault>
-        ensures { result ≡ or_fault (flat_fault threads slots table.now) tt }
-    {
-        check_counts(threads, slots, needed(threads, slots), table.len())
-    }
-
-    // A fresh bank; where the check fails, one of no threads and no slots, and the table is left as it was.
-    pub fn new(threads: u16, slots: u32, table: &'a mut [u32]) -> FlatBank<'a>
-        ensures rows { view result ≡ unless (flat_fault threads slots table.old) (fresh threads slots) (fresh 0 0) }
-        ensures cells { result.table.cells.now ≡ unless (flat_fault threads slots table.old) (cleared (places threads slots) table.old) table.old }
-    {
-        if FlatBank::check(threads, slots, table).is_err() {
-            return FlatBank {
-                threads: 0,
-                slots: 0,
-                table: Table { cells: table },
-            };
-        }
-        let mut table = Table { cells: table };
-        table.clear(needed(threads, slots));
-        FlatBank {
-            threads,
-            slots,
-            table,
-        }
+    for (column, mine) in row.iter_mut().enumerate() {
+        *mine = (*mine).max(other[column]);
     }
 }
 
+// An advance of a thread that is not refused, over its row and the rows of all slots.
+#[tactic(auto, using(crate::proofs::RowsIn::one_row))]
+fn advance_row(
+    row: &mut [u32],
+    slot_rows: &mut [u32],
+    counts: BankCounts,
+    thread: u16,
+    slots: Slots,
+)
+    requires allowed { step_fault counts.threads counts.slots (slice_index row.old thread) thread slots.take slots.post ≡ None }
+    requires width { length row.old ≡ counts.threads }
+    requires fits { counts.slots * counts.threads ≤ length slot_rows.old }
+    ensures row { row.new ≡ joined (rows_in counts.slots counts.threads slot_rows.old) slots.take (grown row.old thread) }
+    ensures slot_rows { rows_in counts.slots counts.threads slot_rows.new ≡ posted (rows_in counts.slots counts.threads slot_rows.old) slots.post row.new }
+    ensures behind { drop (counts.slots * counts.threads) slot_rows.new ≡ drop (counts.slots * counts.threads) slot_rows.old }
+{
+    let width = row.len();
+    row[usize::from(thread)] += 1;
+    if let Some(slot) = slots.take {
+        let start = slot as usize * width;
+        join(row, &slot_rows[start..start + width]);
+    }
+    if let Some(slot) = slots.post {
+        let start = slot as usize * width;
+        slot_rows[start..start + width].copy_from_slice(row);
+    }
+}
+
+// The same over a whole table, with the rows of the threads before those of the slots.
+#[tactic(auto, using(crate::proofs::RowsIn::all_rows))]
+fn step(cells: &mut [u32], counts: BankCounts, thread: u16, slots: Slots)
+    requires allowed { advance_fault (flat_rows counts.threads counts.slots cells.old) thread slots.take slots.post ≡ None }
+    requires fits { places counts.threads counts.slots ≤ length cells.old }
+    ensures rows { flat_rows counts.threads counts.slots cells.new ≡ advanced (flat_rows counts.threads counts.slots cells.old) thread slots.take slots.post }
+    ensures behind { drop (places counts.threads counts.slots) cells.new ≡ drop (places counts.threads counts.slots) cells.old }
+{
+    let width = usize::from(counts.threads);
+    let start = usize::from(thread) * width;
+    let (thread_rows, slot_rows) = cells.split_at_mut(width * width);
+    advance_row(
+        &mut thread_rows[start..start + width],
+        slot_rows,
+        counts,
+        thread,
+        slots,
+    );
+}
+
 impl<'a> FlatBank<'a> {
-    fn number(&self, row: usize, column: u16) -> u32
-        requires row_bound { row < self.now.threads + self.now.slots }
-        requires column_lt_threads { column < self.now.threads }
-        ensures { result ≡ slice_index self.now.table.cells.now (row * self.now.threads + column) }
+    // Row `number` of the table.
+    fn row(&self, number: usize) -> &[u32]
+        requires { number < self.now.counts.threads + self.now.counts.slots }
+        ensures { result.now ≡ run (number * self.now.counts.threads) self.now.counts.threads self.now.cells.now }
     {
-        self.table.cells[row * self.threads as usize + column as usize]
+        let width = usize::from(self.counts.threads);
+        let start = number * width;
+        &self.cells[start..start + width]
     }
 
     // The thread's own entry; 0 where there is no such thread.
     fn own(&self, thread: u16) -> u32
         ensures { result ≡ entry (view self.now).threads thread thread }
     {
-        if thread < self.threads {
-            self.number(thread as usize, thread)
-        } else {
-            0
-        }
-    }
-
-    fn grow(&mut self, thread: u16)
-        requires thread_lt_threads { thread < self.old.threads }
-        requires thread_bound { entry (view self.old).threads thread thread < 65535 }
-        ensures { Becomes self.old self.new (growing (view self.old) thread) }
-    {
-        let place = thread as usize * self.threads as usize + thread as usize;
-        self.table.cells[place] += 1;
-    }
-
-    fn take(&mut self, thread: u16, slot: Option<u32>)
-        requires thread_lt_threads { thread < self.old.threads }
-        requires slot_value { is_slot_of self.old.slots slot ≡ true }
-        ensures { Becomes self.old self.new (taking (view self.old) thread slot) }
-    {
-        if let Some(number) = slot {
-            let width = self.threads as usize;
-            self.table.join(
-                thread as usize * width,
-                (width + number as usize) * width,
-                width,
-            );
-        }
-    }
-
-    fn post(&mut self, thread: u16, slot: Option<u32>)
-        requires thread_lt_threads { thread < self.old.threads }
-        requires slot_value { is_slot_of self.old.slots slot ≡ true }
-        ensures { Becomes self.old self.new (posting (view self.old) thread slot) }
-    {
-        if let Some(number) = slot {
-            let width = self.threads as usize;
-            self.table.copy(
-                (width + number as usize) * width,
-                thread as usize * width,
-                width,
-            );
-        }
-    }
-
-    // Why an advance is refused, or none.
-    fn refusal(&self, thread: u16, take: Option<u32>, post: Option<u32>) -> Option<BankFault>
-        ensures { result ≡ advance_fault (view self.now) thread take post }
-    {
-        match check_advance(
-            self.threads,
-            self.slots,
-            self.own(thread),
-            thread,
-            take,
-            post,
-        ) {
-            Ok(()) => None,
-            Err(fault) => Some(fault),
-        }
-    }
-
-    fn step(&mut self, thread: u16, take: Option<u32>, post: Option<u32>)
-        requires { advance_fault (view self.old) thread take post ≡ None }
-        ensures { Becomes self.old self.new (advanced (view self.old) thread take post) }
-    {
-        self.grow(thread);
-        self.take(thread, take);
-        self.post(thread, post);
+        self.thread_entry(thread, thread).unwrap_or(0)
     }
 }
 
+#[tactic(auto, using(crate::proofs::RowsIn::entries))]
 impl<'a> Bank for FlatBank<'a> {
     ghost rows = { view };
 
-    ghost shaped = { λ b. flat_shaped b.threads b.slots b.table.cells.now b.fits };
+    ghost shaped = { λ b. flat_shaped b.counts.threads b.counts.slots b.cells.now b.fits };
 
     fn thread_count(&self) -> u16 {
-        self.threads // rows of threads come first
+        self.counts.threads
     }
 
     fn slot_count(&self) -> u32 {
-        self.slots // rows of slots come next
+        self.counts.slots
     }
 
     fn thread_entry(&self, thread: u16, column: u16) -> Result<u32, BankFault> {
-        if thread >= self.threads || column >= self.threads {
+        if thread >= self.counts.threads || column >= self.counts.threads {
             return Err(BankFault::NoThread);
         }
-        Ok(self.number(thread as usize, column))
+        Ok(self.row(usize::from(thread))[usize::from(column)])
     }
 
     fn slot_entry(&self, slot: u32, column: u16) -> Result<u32, BankFault> {
-        if slot >= self.slots {
+        if slot >= self.counts.slots {
             return Err(BankFault::NoSlot);
         }
-        if column >= self.threads {
+        if column >= self.counts.threads {
             return Err(BankFault::NoThread);
         }
-        Ok(self.number(self.threads as usize + slot as usize, column))
+        let number = usize::from(self.counts.threads) + slot as usize;
+        Ok(self.row(number)[usize::from(column)])
     }
 
-    fn advance(
-        &mut self,
-        thread: u16,
-        take: Option<u32>,
-        post: Option<u32>,
-    ) -> Result<(), BankFault>
-        ensures answer { result ≡ or_fault (advance_fault (view self.old) thread take post) tt }
-        ensures after { view self.new ≡ unless (advance_fault (view self.old) thread take post) (advanced (view self.old) thread take post) (view self.old) }
+    fn advance(&mut self, thread: u16, slots: Slots) -> Result<(), BankFault>
+        ensures answer { result ≡ or_fault (advance_fault (view self.old) thread slots.take slots.post) tt }
+        ensures after { view self.new ≡ unless (advance_fault (view self.old) thread slots.take slots.post) (advanced (view self.old) thread slots.take slots.post) (view self.old) }
         ensures behind { rest self.new ≡ rest self.old }
     {
-        match self.refusal(thread, take, post) {
-            Some(fault) => Err(fault),
-            None => {
-                self.step(thread, take, post);
-                Ok(())
-            }
-        }
+        self.counts.check_advance(self.own(thread), thread, slots)?;
+        step(self.cells, self.counts, thread, slots);
+        Ok(())
     }
 }

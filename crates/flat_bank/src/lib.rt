@@ -3,6 +3,5 @@
 
 mod calls;
 mod flat;
-mod table;
 
 pub use flat::FlatBank;

@@ -1,6 +1,0 @@
-use Rattle.std.proofs.Common.{arith}
-use Rattle.flat_bank.specs.Shape.{length_threads}
-use Rattle.flat_bank.proofs.calls.FlatBankBank.thread_count.Goals as goal
-
-pub returns : goal.returns
-returns c = let self = c.args.self.now in omega (arith, length_threads self.threads self.slots self.table.cells.now)
