@@ -2,10 +2,11 @@
 use Rattle.std.proofs.Common.{ℕ, ◌≤◌, List, arith}
 use Rattle.events.specs.declared.event.Event.{Event}
 use Rattle.events.specs.Rules.{OrderRule}
-use Rattle.orders.specs.Orders.{Relation, Contains, Preorder, Closure, self, then, Edge, thread_edge, slot_edge, Edge1, thread_edge_1, lock_edge, Edge2, order_edge, write_edge, Smallest}
+use Rattle.orders.specs.Orders.{Relation, Contains, Preorder, Closure, self, then, Edge, Edge1, Edge2, order_edge, write_edge, Smallest}
 use Rattle.orders.specs.Theorems.{SmallestOrders}
 
 module _ {E : Relation} where
+  -- two chains, one behind the other; an edge is a chain
   pub chained : {i j k : ℕ} → Closure E i j → Closure E j k → Closure E i k
   chained a self = a
   chained a (then b e) = then (chained a b) e
@@ -13,13 +14,14 @@ module _ {E : Relation} where
   pub one_edge : {i j : ℕ} → E i j → Closure E i j
   one_edge e = then self e
 
-  pub closed_in : (R : Relation) → Preorder R → Contains R E → {i j : ℕ} → Closure E i j → R i j
+  -- a reflexive and transitive relation that contains the edges contains the chains
+  closed_in : (R : Relation) → Preorder R → Contains R E → {i j : ℕ} → Closure E i j → R i j
   closed_in R order contains {i} self = order.reflexive i
   closed_in R order contains (then {i = i} {j = j} {k = k} b e) = order.transitive i j k (closed_in R order contains b) (contains j k e)
 
+  -- chains of edges that lead to no earlier position lead to none either
   pub upwards : ((i j : ℕ) → E i j → i ≤ j) → {i j : ℕ} → Closure E i j → i ≤ j
-  upwards up self = omega arith
-  upwards up (then {i = i} {j = j} {k = k} b e) = omega (arith, upwards up b, up j k e)
+  upwards up b = closed_in (λ i j. i ≤ j) (omega arith) up b
 
 pub closure_order : (E : Relation) → Preorder (Closure E)
 closure_order E = record { reflexive = λ i. self; transitive = λ i j k a b. chained a b }
@@ -28,13 +30,12 @@ closure_order E = record { reflexive = λ i. self; transitive = λ i j k a b. ch
 pub inside : {E F : Relation} → Contains (Closure F) E → Contains (Closure F) (Closure E)
 inside {F = F} edges i j b = closed_in (Closure F) (closure_order F) edges b
 
+-- a rule's edges, and those of orders 1 and 2, lead to no earlier position
 pub edge_up : (r : OrderRule) (locks : ℕ) (log : List Event) (i j : ℕ) → Edge r locks log i j → i ≤ j
-edge_up r locks log i j (thread_edge t) = omega arith
-edge_up r locks log i j (slot_edge s inside takes last) = omega arith
+edge_up r locks log i j e = grind arith
 
 pub edge_1_up : (log : List Event) (i j : ℕ) → Edge1 log i j → i ≤ j
-edge_1_up log i j (thread_edge_1 t) = omega arith
-edge_1_up log i j (lock_edge l earlier release acquire) = omega arith
+edge_1_up log i j e = grind arith
 
 pub edge_2_up : (log : List Event) (i j : ℕ) → Edge2 log i j → i ≤ j
 edge_2_up log i j (order_edge b) = omega (arith, upwards (edge_1_up log) b)

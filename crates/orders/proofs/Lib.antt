@@ -1,4 +1,5 @@
 pub mod Closures
+pub mod Lasts
 pub mod LocalTimes
 pub mod Largest
 pub mod Slots

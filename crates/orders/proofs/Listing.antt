@@ -1,9 +1,10 @@
 -- Pairs listed by a test: which are listed, and that their order makes a list of pairs the only one. Assumes nothing.
-use Rattle.std.proofs.Common.{◌≡◌, ℕ, zero, suc, ◌*◌, ◌<◌, ◌≤◌, Bool, true, false, cond, ◌⊎◌, ◌↔◌, List, [], ◌∷◌, ◌++◌, length, sym, refl, ap, ◌∙◌, ap₂, inl, inr, suc-mul, mul-suc, arith}
+use Rattle.std.proofs.Common.{◌≡◌, ℕ, zero, suc, ◌*◌, ◌<◌, ◌≤◌, Bool, true, false, cond, ◌⊎◌, ◌↔◌, List, [], ◌∷◌, ◌++◌, length, take, sym, refl, ap, ◌∙◌, ap₂, inl, inr, arith}
 use mathlib.Core.List.Memᴰ
 use mathlib.Core.List.{Memᴰ}
-use native.Mathlib.Decide.{dec_lt}
-use Rattle.std.proofs.lemmas.List.{length-append}
+use native.Mathlib.Decide.{le_ind}
+use Rattle.std.proofs.lemmas.Bool.{cases_lt}
+use Rattle.std.proofs.lemmas.List.{length-append, length-take, take-append-le, take_all}
 use Rattle.events.specs.declared.event.Event.{Event}
 use Rattle.orders.specs.declared.pair.PositionPair.{PositionPair}
 use Rattle.orders.specs.Orders.{Relation, Earlier}
@@ -17,10 +18,10 @@ record ListedWith (test : ℕ → Bool) (j n : ℕ) (p : PositionPair) : Type 0 
   passes : test p.earlier ≡ true
 
 -- what a listed pair of positions below n tells
-pub record Listed (test : ℕ → ℕ → Bool) (n : ℕ) (p : PositionPair) : Type 0 where
-  pub first : p.earlier < p.later
-  pub below : p.later < n
-  pub passes : test p.earlier p.later ≡ true
+record Listed (test : ℕ → ℕ → Bool) (n : ℕ) (p : PositionPair) : Type 0 where
+  first : p.earlier < p.later
+  below : p.later < n
+  passes : test p.earlier p.later ≡ true
 
 -- what an element of a list of one pair or none tells
 one_sound : (b : Bool) (i j : ℕ) (p : PositionPair) → Memᴰ p (cond b (positions i j ∷ []) [])
@@ -32,6 +33,7 @@ one_rising : (b : Bool) (p : PositionPair) → Rising (cond b (p ∷ []) [])
 one_rising true p = (λ q m. absurd (Memᴰ.not-nil m), tt)
 one_rising false p = tt
 
+-- the pairs listed with the later position j: what they tell, and which they are
 with_sound : (test : ℕ → Bool) (j n : ℕ) (p : PositionPair) → Memᴰ p (pairs_with test j n) → ListedWith test j n p
 with_sound test j zero p m = absurd (Memᴰ.not-nil m)
 with_sound test j (suc n) p m = elim (Memᴰ.append_cases (pairs_with test j n) m) [
@@ -41,27 +43,37 @@ with_sound test j (suc n) p m = elim (Memᴰ.append_cases (pairs_with test j n) 
 
 with_whole : (test : ℕ → Bool) (j n i : ℕ) → i < n → test i ≡ true → Memᴰ (positions i j) (pairs_with test j n)
 with_whole test j zero i h t = absurd (omega arith)
-with_whole test j (suc n) i h t = elim (dec_lt i n) [
-  | yes a ↦ Memᴰ.append_left _ (with_whole test j n i a t)
-  | no a ↦ let e : i ≡ n = omega arith in Memᴰ.append_right (pairs_with test j n)
-      (rw (ap test (sym e) ∙ t) (Memᴰ.head (ap (λ k. positions k j) e)))
+with_whole test j (suc n) i h t = elim (cases_lt i n) [
+  | inl a ↦ Memᴰ.append_left _ (with_whole test j n i a t)
+  | inr a ↦ let e : n ≡ i = omega arith in Memᴰ.append_right (pairs_with test j n) (rw (e, t) (Memᴰ.head refl))
 ]
 
-pub below_sound : (test : ℕ → ℕ → Bool) (n : ℕ) (p : PositionPair) → Memᴰ p (pairs_below test n) → Listed test n p
+-- the same of all pairs of positions below n
+below_sound : (test : ℕ → ℕ → Bool) (n : ℕ) (p : PositionPair) → Memᴰ p (pairs_below test n) → Listed test n p
 below_sound test zero p m = absurd (Memᴰ.not-nil m)
 below_sound test (suc n) p m = elim (Memᴰ.append_cases (pairs_below test n) m) [
   | inl k ↦ let w = below_sound test n p k in record { first = w.first; below = omega arith; passes = w.passes }
   | inr k ↦ let w = with_sound (λ i. test i n) n n p k in record { first = omega arith; below = omega arith; passes = cc }
 ]
 
-pub below_whole : (test : ℕ → ℕ → Bool) (n i j : ℕ) → i < j → j < n → test i j ≡ true → Memᴰ (positions i j) (pairs_below test n)
+below_whole : (test : ℕ → ℕ → Bool) (n i j : ℕ) → i < j → j < n → test i j ≡ true → Memᴰ (positions i j) (pairs_below test n)
 below_whole test zero i j h b t = absurd (omega arith)
-below_whole test (suc n) i j h b t = elim (dec_lt j n) [
-  | yes a ↦ Memᴰ.append_left _ (below_whole test n i j h a t)
-  | no a ↦ let e : j ≡ n = omega arith in Memᴰ.append_right (pairs_below test n)
-      (Memᴰ.cast (ap (positions i) e) (with_whole (λ k. test k n) n n i (omega arith) (ap (test i) (sym e) ∙ t)))
+below_whole test (suc n) i j h b t = elim (cases_lt j n) [
+  | inl a ↦ Memᴰ.append_left _ (below_whole test n i j h a t)
+  | inr a ↦ let e : n ≡ j = omega arith in Memᴰ.append_right (pairs_below test n) (rw e (with_whole (λ k. test k j) j j i h t))
 ]
 
+-- pairs below a later position begin with those below an earlier one
+pub below_begin : (test : ℕ → ℕ → Bool) (n m : ℕ) → n ≤ m → take (length (pairs_below test n)) (pairs_below test m) ≡ pairs_below test n
+below_begin test n m h = le_ind (λ k. take (length ps) (pairs_below test k) ≡ ps) (take_all (length ps) ps (omega arith)) more m h
+  where
+    ps : List PositionPair
+    ps = pairs_below test n
+
+    more : (k : ℕ) → n ≤ k → take (length ps) (pairs_below test k) ≡ ps → take (length ps) (pairs_below test (suc k)) ≡ ps
+    more k l same = take-append-le (length ps) (pairs_below test k) _ (omega (arith, ap length same, length-take (length ps) (pairs_below test k))) ∙ same
+
+-- a list rises if its two parts do, and each of the first is ahead of each of the second
 rising_append : (ps qs : List PositionPair) → Rising ps → Rising qs
     → ((p q : PositionPair) → Memᴰ p ps → Memᴰ q qs → Ahead p q) → Rising (ps ++ qs)
 rising_append [] qs a b ahead = b
@@ -75,28 +87,25 @@ with_rising test j zero = tt
 with_rising test j (suc n) = rising_append (pairs_with test j n) _ (with_rising test j n) (one_rising (test n) (positions n j))
     (λ p q m k. let v = with_sound test j n p m in let w = one_sound (test n) n j q k in inr (omega arith, omega arith))
 
-pub below_rising : (test : ℕ → ℕ → Bool) (n : ℕ) → Rising (pairs_below test n)
+below_rising : (test : ℕ → ℕ → Bool) (n : ℕ) → Rising (pairs_below test n)
 below_rising test zero = tt
 below_rising test (suc n) = rising_append (pairs_below test n) _ (below_rising test n) (with_rising (λ i. test i n) n n)
     (λ p q m k. inl (omega (arith, (below_sound test n p m).below, (with_sound (λ i. test i n) n n q k).at)))
 
+-- no two pairs are each ahead of the other
 ahead_one_way : (p q : PositionPair) → Ahead p q → Ahead q p → ⊥
 ahead_one_way p q a b = grind arith
-
--- a rising list has no element twice
-pub rising_apart : (p : PositionPair) (ps : List PositionPair) → Rising (p ∷ ps) → Memᴰ p ps → ⊥
-rising_apart p ps a m = ahead_one_way p p (a.0 p m) (a.0 p m)
 
 -- of lists with the same head, if a rising one is inside another, so is its tail inside the other's tail
 tail_inside : {p q : PositionPair} (ps qs : List PositionPair) → p ≡ q → Rising (p ∷ ps)
     → ((r : PositionPair) → Memᴰ r (p ∷ ps) → Memᴰ r (q ∷ qs)) → (r : PositionPair) → Memᴰ r ps → Memᴰ r qs
 tail_inside {p} ps qs e a inside r m = elim (Memᴰ.cases_cons (inside r (Memᴰ.tail m))) [
-  | inl z ↦ absurd (rising_apart p ps a (Memᴰ.cast (e ∙ sym z) m))
+  | inl z ↦ let twice = a.0 p (Memᴰ.cast (e ∙ sym z) m) in absurd (ahead_one_way p p twice twice)
   | inr k ↦ k
 ]
 
 -- two rising lists with the same elements are one
-pub rising_one : (ps qs : List PositionPair) → Rising ps → Rising qs → ((p : PositionPair) → Memᴰ p ps → Memᴰ p qs)
+rising_one : (ps qs : List PositionPair) → Rising ps → Rising qs → ((p : PositionPair) → Memᴰ p ps → Memᴰ p qs)
     → ((p : PositionPair) → Memᴰ p qs → Memᴰ p ps) → ps ≡ qs
 rising_one [] [] a b f g = refl
 rising_one [] (q ∷ qs) a b f g = absurd (Memᴰ.not-nil (g q (Memᴰ.head refl)))
@@ -134,20 +143,9 @@ lists_by_test B log test tells = record {
 -- how many pairs there can be: at most n with one later position, and at most n times n in all
 with_few : (test : ℕ → Bool) (j n : ℕ) → length (pairs_with test j n) ≤ n
 with_few test j zero = omega arith
-with_few test j (suc n) = go (test n) (with_few test j n)
-  where
-    go : (b : Bool) → length (pairs_with test j n) ≤ n → length (pairs_with test j n ++ cond b (positions n j ∷ []) []) ≤ suc n
-    go true few = omega (arith, length-append (pairs_with test j n) (positions n j ∷ []))
-    go false few = omega (arith, length-append (pairs_with test j n) [])
+with_few test j (suc n) = grind (arith, with_few test j n, length-append {A = PositionPair})
 
 pub below_few : (test : ℕ → ℕ → Bool) (n : ℕ) → length (pairs_below test n) ≤ n * n
 below_few test zero = omega arith
 below_few test (suc n) =
-    omega (
-      arith,
-      length-append (pairs_below test n) (pairs_with (λ i. test i n) n n),
-      with_few (λ i. test i n) n n,
-      below_few test n,
-      suc-mul n (suc n),
-      mul-suc n n,
-    )
+    omega (arith, length-append (pairs_below test n) (pairs_with (λ i. test i n) n n), with_few (λ i. test i n) n n, below_few test n)

@@ -2,7 +2,7 @@
 use Rattle.std.proofs.Common.{ℕ, ◌↔◌, List}
 use Rattle.events.specs.declared.event.Event.{Event}
 use Rattle.orders.specs.declared.pair.PositionPair.{PositionPair}
-use Rattle.orders.specs.Orders.{Relation}
+use Rattle.orders.specs.Orders.{Relation, Contains}
 use Rattle.orders.specs.Times.{Time}
 use Rattle.orders.specs.Pairs.{Pair, Lists, Total}
 use Rattle.orders.proofs.Largest.{largest_same}
@@ -16,19 +16,17 @@ turned same i j = ((same i j).1, (same i j).0)
 pub time_as : {B C : Relation} {log : List Event} {i t v : ℕ} → SameRelations B C → Time B log i t v → Time C log i t v
 time_as {i = i} same l = largest_same (λ j b. (same j i).0 b) (λ j b. (same j i).1 b) l
 
-pair_as : {B C : Relation} {log : List Event} {i j : ℕ} → SameRelations B C → Pair B log i j → Pair C log i j
-pair_as {i = i} {j = j} same p = record {
-  conflict = p.conflict;
-  not_before = λ b. p.not_before ((same i j).1 b);
-  not_after = λ b. p.not_after ((same j i).1 b);
-}
+-- what a relation leaves apart, one that it contains leaves apart too
+pub pair_less : {B E : Relation} {log : List Event} {i j : ℕ} → Contains B E → Pair B log i j → Pair E log i j
+pair_less {i = i} {j = j} contains p =
+    record { conflict = p.conflict; not_before = λ b. p.not_before (contains i j b); not_after = λ b. p.not_after (contains j i b) }
 
 pub lists_as : {B C : Relation} {log : List Event} {ps : List PositionPair} → SameRelations B C → Lists B log ps → Lists C log ps
 lists_as same l = record {
   rising = l.rising;
   placed = l.placed;
-  sound = λ p m. pair_as same (l.sound p m);
-  whole = λ i j h p. l.whole i j h (pair_as (turned same) p);
+  sound = λ p m. pair_less (λ i j. (same i j).1) (l.sound p m);
+  whole = λ i j h p. l.whole i j h (pair_less (λ i j. (same i j).0) p);
 }
 
 pub total_as : {B C : Relation} {log : List Event} {n : ℕ} → SameRelations B C → Total B log n → Total C log n

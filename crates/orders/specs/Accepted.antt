@@ -1,5 +1,5 @@
 -- Accepted traces: every event names what there is, and locks are held by one thread at a time. Assumes nothing.
-use Rattle.std.specs.Prelude.{◌≡◌, ℕ, zero, suc, ◌<◌, cond, List, length, Some, None, Option, ◌==◌}
+use Rattle.std.specs.Prelude.{◌≡◌, ℕ, zero, suc, ◌<◌, if◌then◌else◌, List, length, Some, None, Option, ◌==◌}
 use Rattle.events.specs.declared.event.Operation.{Operation}
 use Rattle.events.specs.declared.event.Operation.TheVariants.{Read, Write, Acquire, Release}
 use Rattle.events.specs.declared.event.Event.{Event}
@@ -22,8 +22,8 @@ pub record Inside (c : Counts) (log : List Event) : Type 0 where
 abbrev pub held_after : Operation → ℕ → ℕ → Option ℕ → Option ℕ
 held_after (Read v) t l o = o
 held_after (Write v) t l o = o
-held_after (Acquire m) t l o = cond (m == l) (Some t) o
-held_after (Release m) t l o = cond (m == l) None o
+held_after (Acquire m) t l o = if m == l then Some t else o
+held_after (Release m) t l o = if m == l then None else o
 
 -- who holds lock l after the first n events
 abbrev pub holder : List Event → ℕ → ℕ → Option ℕ

@@ -1,5 +1,5 @@
 -- Two traces of one behaviour, compared by the names of their events. Assumes nothing.
-use Rattle.std.specs.Prelude.{◌≡◌, ℕ, ◌<◌, cond, ◌⊎◌, ◌↔◌, List, [], ◌∷◌, length, ◌==◌}
+use Rattle.std.specs.Prelude.{◌≡◌, ℕ, ◌<◌, if◌then◌else◌, ◌⊎◌, ◌↔◌, List, [], ◌∷◌, length, ◌==◌}
 use mathlib.Core.List.{Memᴰ}
 use Rattle.events.specs.declared.event.Operation.{Operation}
 use Rattle.events.specs.declared.event.Operation.TheVariants.{Read, Write, Acquire, Release}
@@ -14,7 +14,7 @@ use Rattle.orders.specs.Pairs.{Pair, Lists, Total}
 -- what thread t does, in its order
 abbrev pub operations : ℕ → List Event → List Operation
 operations t [] = []
-operations t (e ∷ es) = cond (e.thread == t) (e.operation ∷ operations t es) (operations t es)
+operations t (e ∷ es) = if e.thread == t then e.operation ∷ operations t es else operations t es
 
 abbrev pub SameOperations : List Event → List Event → Type 0
 SameOperations log other = (t : ℕ) → operations t log ≡ operations t other

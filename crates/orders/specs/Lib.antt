@@ -1,3 +1,5 @@
+pub mod Needs
+pub mod Texts
 pub mod Traces
 pub mod Accepted
 pub mod Orders

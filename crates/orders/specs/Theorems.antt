@@ -1,5 +1,5 @@
 -- What is proved of orders, times and pairs. Each statement stands on the contract of a function. Assumes nothing.
-use Rattle.std.specs.Prelude.{◌≡◌, ℕ, ◌<◌, ◌≤◌, ◌↔◌, List, ◌++◌, length, take, Decides, slice_index}
+use Rattle.std.specs.Prelude.{◌≡◌, ℕ, ◌<◌, ◌≤◌, ◌↔◌, List, ◌++◌, length, take, IsTrue, slice_index}
 use Rattle.std.specs.List.{AllByRecursion}
 use Rattle.events.specs.declared.event.Event.{Event}
 use Rattle.events.specs.Rules.{OrderRule, Lawful, happens_before}
@@ -50,7 +50,7 @@ pub record StampsAreTimes (R : Relation) : Type 0 where
 -- the list; no relation R has two lists
 pub record PairsAreFound (R : Relation) : Type 0 where
   pub each : (r : OrderRule) → Lawful r → (c : Counts) (log : List Event) → Inside c log →
-      (i j : ℕ) → Earlier log i j → Decides (unseen r c log i j) (Pair (Before r c.locks log) log i j)
+      (i j : ℕ) → Earlier log i j → (IsTrue (unseen r c log i j) ↔ Pair (Before r c.locks log) log i j)
   pub list : (r : OrderRule) → Lawful r → (c : Counts) (log : List Event) → Inside c log →
       Lists (Before r c.locks log) log (found r c log)
   pub total : (r : OrderRule) → Lawful r → (c : Counts) (log : List Event) → Inside c log →

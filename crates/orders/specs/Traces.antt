@@ -1,5 +1,5 @@
 -- Traces: positions, local times, and the names of events. Assumes nothing.
-use Rattle.std.specs.Prelude.{◌≡◌, ℕ, zero, suc, cond, List, ◌==◌, slice_index_or}
+use Rattle.std.specs.Prelude.{◌≡◌, ℕ, zero, suc, if◌then◌else◌, List, ◌==◌, slice_index_or}
 use Rattle.events.specs.declared.event.Operation.{Operation}
 use Rattle.events.specs.declared.event.Operation.TheVariants.{Read}
 use Rattle.events.specs.declared.event.Event.{Event}
@@ -21,7 +21,7 @@ operation_at log i = (event log i).operation
 -- how many of the first n events are thread t's
 abbrev pub count : List Event → ℕ → ℕ → ℕ
 count log t zero = 0
-count log t (suc n) = cond (thread_at log n == t) (suc (count log t n)) (count log t n)
+count log t (suc n) = if thread_at log n == t then suc (count log t n) else count log t n
 
 -- the local time of the event at i: the number of its thread's events up to it, itself included
 abbrev pub local : List Event → ℕ → ℕ
