@@ -5,8 +5,8 @@ use Rattle.std.proofs.lemmas.List.{length-set, get_or-set_same, get_or-set_other
 use Rattle.std.proofs.lemmas.Bool.{ltb-true, eq-eqb, ne_eqb}
 use Rattle.std.proofs.lemmas.Bool.Decides.{nat_tests}
 use Rattle.clock_bank.specs.Faults.{unless}
-use Rattle.keep_list.specs.Kept.{Kept, kept, added, most}
-use Rattle.keep_list.proofs.Records.{added_is}
+use Rattle.keep_list.specs.Kept.{Kept}
+use Rattle.keep_list.proofs.Records.{more}
 use Rattle.events.specs.declared.event.Operation.{Operation}
 use Rattle.events.specs.declared.event.Operation.TheVariants.{Read, Write, Acquire, Release}
 use Rattle.events.specs.declared.event.Event.{Event}
@@ -27,14 +27,7 @@ use Rattle.notebook.specs.Parts.{Admitted, LockBelow, locks_after}
 use Rattle.notebook.specs.declared.notebook.Notebook.{Notebook}
 use Rattle.notebook.specs.View.{book}
 use Rattle.notebook.proofs.Logs.{length_events}
-use Rattle.notebook.proofs.Sound.{Sound}
-
--- a log with one record more, where counting has not stopped
-abbrev pub more : Kept LoggedEvent → LoggedEvent → Kept LoggedEvent
-more log x = record { table = set log.table log.total x; total = log.total + 1 }
-
-pub added_more : (log : Kept LoggedEvent) (x : LoggedEvent) → log.total < most → added log x ≡ more log x
-added_more log x h = sym (added_is log _ x h refl)
+use Rattle.notebook.specs.Sound.{Sound}
 
 pub more_events : (log : Kept LoggedEvent) (x : LoggedEvent) → log.total < length log.table
     → logged_events (more log x) ≡ logged_events log ++ x.event ∷ []
@@ -63,12 +56,10 @@ module _ (log : List Event) (e : Event) where
       )
 
   pub new_count : (t : ℕ) → count longer t (suc (length log)) ≡ cond (eqb e.thread t) (suc (count log t (length log))) (count log t (length log))
-  new_count t =
-      ap₂ (λ (d : Event) (n : ℕ). cond (eqb d.thread t) (suc n) n) new_event (count_shared (length log) longer log t old_event)
+  new_count t = cc (new_event, count_shared (length log) longer log t old_event)
 
   pub new_holder : (l : ℕ) → holder longer l (suc (length log)) ≡ held_after e.operation e.thread l (holder log l (length log))
-  new_holder l =
-      ap₂ (λ (d : Event) (o : Option ℕ). held_after d.operation d.thread l o) new_event (holder_shared (length log) longer log l old_event)
+  new_holder l = cc (new_event, holder_shared (length log) longer log l old_event)
 
 pub holder_one : (o p : Option ℕ) → holder_number o ≡ holder_number p → o ≡ p
 holder_one None None e = refl
@@ -207,9 +198,9 @@ module _ (c : Counts) (locks : List Lock) (seen : List ℕ) (log : Kept LoggedEv
 -- what an admitted event has
 pub record Room (n : Notebook) (e : Event) : Type 0 where
   pub thread : e.thread < n.counts.threads
-  pub log : (kept n.tables.log).total < length (kept n.tables.log).table
-  pub stamps : (kept n.tables.log).total * n.counts.threads + n.counts.threads ≤ length n.tables.stamps.cells.now
-  pub short : (kept n.tables.log).total < 65535
+  pub log : n.tables.log.total < length n.tables.log.table
+  pub stamps : n.tables.log.total * n.counts.threads + n.counts.threads ≤ length n.tables.stamps.now
+  pub short : n.tables.log.total < 65535
 
 -- room for one event more behind n
 pub record RoomFor (m : Setting) (n : ℕ) : Type 0 where
@@ -222,7 +213,7 @@ room_for m n h = record { log = grind (arith, nat_tests); stamps = grind (arith,
 
 pub room_of : (n : Notebook) (e : Event) → Admitted (book n) e → Room n e
 room_of n e a =
-    let total = length_events (kept n.tables.log) n.whole in
+    let total = length_events n.tables.log n.sound.whole in
     let room = room_for (setting (book n)) (length (events (book n))) a.room in
     record {
       thread = a.thread;

@@ -3,7 +3,7 @@ use Rattle.std.proofs.Common.{◌≡◌, ℕ, suc, ◌+◌, ◌*◌, ◌<◌, �
 use native.Mathlib.Decide.{dec_lt}
 use Rattle.std.proofs.lemmas.List.{length-set, length_push}
 use Rattle.std.proofs.lemmas.List.Edits.{length-paste}
-use Rattle.keep_list.specs.Kept.{Kept, kept, empty, all_added}
+use Rattle.keep_list.specs.Kept.{Kept, empty, all_added}
 use Rattle.keep_list.proofs.Records.{all_added_append}
 use Rattle.clock_bank.specs.Rows.{Rows, fresh, entry}
 use Rattle.clock_bank.specs.Runs.{run}
@@ -27,8 +27,9 @@ use Rattle.notebook.specs.Books.{Book, logged_events, events, stamp_held, admitt
 use Rattle.notebook.specs.Notes.{Setting, setting, event_fault, move_fault, note_fault, new_stamp, Note}
 use Rattle.notebook.specs.Runs.{Call, notes, asks, Start, made, accepted_by, Run, fresh_start, then_notes, then_asks}
 use Rattle.notebook.specs.View.{book}
+use Rattle.keep_list.proofs.Records.{added_more}
 use Rattle.notebook.proofs.Logs.{length_events}
-use Rattle.notebook.proofs.Entering.{more_events, added_more, new_event, old_event, count_most, Room, room_of}
+use Rattle.notebook.proofs.Entering.{more_events, new_event, old_event, count_most, Room, room_of}
 use Rattle.notebook.proofs.Noting.{written_down, event_refused, bank_answers, Right, right, admitted}
 use Rattle.notebook.proofs.Accepting.{object_there, empty_accepted, more_accepted}
 
@@ -63,10 +64,7 @@ module _ (s : Start) (r : OrderRule) (law : Lawful r) where
   same_fault : (log : List Event) (rows : Rows) (b : Book) (e : Event) → Follows log rows b
       → event_fault (setting b) (length rows.threads) (length rows.slots) r.number (events b) e
       ≡ event_fault (setting (made s)) s.threads s.slots r.number log e
-  same_fault log rows b e f =
-      ap (λ (m : Setting). event_fault m (length rows.threads) (length rows.slots) r.number (events b) e) f.same
-      ∙ (ap₂ (λ (k q : ℕ). event_fault (setting (made s)) k q r.number (events b) e) f.sized.threads f.sized.slots
-      ∙ ap (λ (es : List Event). event_fault (setting (made s)) s.threads s.slots r.number es e) f.logs)
+  same_fault log rows b e f = cc
 
   -- one event more is accepted
   module _ (log : List Event) (rows : Rows) (n : Notebook) (e : Event) (f : Follows log rows (book n))
@@ -93,8 +91,8 @@ module _ (s : Start) (r : OrderRule) (law : Lawful r) where
     rows_now : rows ≡ after r counts_made log (length log)
     rows_now = f.rows_are ok.threads ok.slots
 
-    total_is : (kept n.tables.log).total ≡ length log
-    total_is = sym (length_events (kept n.tables.log) n.whole) ∙ ap length f.logs
+    total_is : n.tables.log.total ≡ length log
+    total_is = sym (length_events n.tables.log n.sound.whole) ∙ ap length f.logs
 
     object : HasObject counts_made e.operation
     object = object_there counts_made e.operation ok.object
@@ -136,18 +134,19 @@ module _ (s : Start) (r : OrderRule) (law : Lawful r) where
     never_refused = bank_answers r rows (book n) e None here bank_free
 
     rows_more : moved r n.counts.locks rows e ≡ after r counts_made (log ++ e ∷ []) (suc (length log))
-    rows_more =
-        ap₂ (λ (c : Counts) (x : Rows). moved r c.locks x e) counts_are rows_now
-        ∙ sym (ap₂ (λ (d : Event) (x : Rows). moved r counts_made.locks x d) (new_event log e) (after_shared r counts_made (length log) longer log (old_event log e)))
+    rows_more = cc (counts_are, rows_now, new_event log e, after_shared r counts_made (length log) longer log (old_event log e))
 
     abbrev row : List ℕ
     row = new_stamp r n.counts.locks rows e
 
     row_is : row ≡ stamp r counts_made (log ++ e ∷ []) (length log)
-    row_is =
-        ap₂ (λ (c : Counts) (x : Rows). new_stamp r c.locks x e) counts_are rows_now
-        ∙ sym (stamp_is r law counts_made longer accepts_more.inside (length log) (omega (arith, one_more))
-        ∙ ap₂ (λ (d : Event) (x : Rows). new_stamp r counts_made.locks x d) (new_event log e) (after_shared r counts_made (length log) longer log (old_event log e)))
+    row_is = cc (
+      counts_are,
+      rows_now,
+      new_event log e,
+      after_shared r counts_made (length log) longer log (old_event log e),
+      stamp_is r law counts_made longer accepts_more.inside (length log) (omega (arith, one_more)),
+    )
 
     row_long : length row ≡ n.counts.threads
     row_long =
@@ -157,7 +156,7 @@ module _ (s : Start) (r : OrderRule) (law : Lawful r) where
     at_is : length (events (book n)) ≡ length log
     at_is = ap length f.logs
 
-    fits : length (events (book n)) * n.counts.threads + n.counts.threads ≤ length n.tables.stamps.cells.now
+    fits : length (events (book n)) * n.counts.threads + n.counts.threads ≤ length n.tables.stamps.now
     fits = omega (arith, room.stamps, ap (λ (m : ℕ). m * n.counts.threads) (at_is ∙ sym total_is))
 
     stamps_more : (i : ℕ) → i < length (log ++ e ∷ []) → stamp_held (written_down r rows (book n) e) i ≡ stamp r counts_made (log ++ e ∷ []) i
@@ -173,7 +172,7 @@ module _ (s : Start) (r : OrderRule) (law : Lawful r) where
     ]
       where
         cells : List ℕ
-        cells = n.tables.stamps.cells.now
+        cells = n.tables.stamps.now
 
         k : ℕ
         k = n.counts.threads
@@ -199,15 +198,15 @@ module _ (s : Start) (r : OrderRule) (law : Lawful r) where
     events_more : events (written_down r rows (book n) e) ≡ log ++ e ∷ []
     events_more =
         let x : LoggedEvent = record { event = e; time = _ } in
-        ap logged_events (added_more (kept n.tables.log) x (omega (arith, room.short)))
-        ∙ (more_events (kept n.tables.log) x room.log ∙ ap (λ (es : List Event). es ++ e ∷ []) f.logs)
+        ap logged_events (added_more n.tables.log x (omega (arith, room.short)))
+        ∙ (more_events n.tables.log x room.log ∙ ap (λ (es : List Event). es ++ e ∷ []) f.logs)
 
     same_more : setting (written_down r rows (book n) e) ≡ setting (made s)
     same_more =
         ap₂ (λ (p q : ℕ). record { counts = n.counts; rule = n.rule; log_places = p; stamp_places = q })
-        (ap (λ (log : Kept LoggedEvent). length log.table) (added_more (kept n.tables.log) _ (omega (arith, room.short)))
-        ∙ length-set (kept n.tables.log).table (kept n.tables.log).total _)
-        (length-paste n.tables.stamps.cells.now _ row _ fits (omega (arith, row_long)))
+        (ap (λ (log : Kept LoggedEvent). length log.table) (added_more n.tables.log _ (omega (arith, room.short)))
+        ∙ length-set n.tables.log.table n.tables.log.total _)
+        (length-paste n.tables.stamps.now _ row _ fits (omega (arith, row_long)))
         ∙ f.same
 
     pub follows_more : Follows (log ++ e ∷ []) (moved r n.counts.locks rows e) (written_down r rows (book n) e)

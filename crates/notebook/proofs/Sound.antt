@@ -1,49 +1,16 @@
--- The invariant of a notebook, as a record. Assumes nothing.
-use Rattle.std.proofs.Common.{◌≡◌, ℕ, ◌*◌, ◌<◌, ◌≤◌, List, length, get_or, replicate, Some, None, Option, sym, refl, ap, subst, zero-mul, arith}
+-- The invariant of a notebook, as it is made and under equal parts. Assumes nothing.
+use Rattle.std.proofs.Common.{◌≡◌, ℕ, ◌≤◌, List, replicate, Some, None, Option, sym, refl, ap, subst, zero-mul, arith}
 use Rattle.std.proofs.lemmas.List.{length-replicate, get_or-replicate}
 use Rattle.std.proofs.lemmas.Bool.Decides.{nat_tests}
 use Rattle.clock_bank.specs.Faults.{unless}
-use Rattle.keep_list.specs.Kept.{Kept, kept, empty}
+use Rattle.keep_list.specs.Kept.{Kept, empty}
 use Rattle.orders.specs.declared.counts.Counts.{Counts}
-use Rattle.orders.specs.Traces.{thread_at, count, local}
-use Rattle.orders.specs.Accepted.{holder}
 use Rattle.notebook.specs.declared.lock.Lock.{Lock}
 use Rattle.notebook.specs.declared.log.LoggedEvent.{LoggedEvent}
-use Rattle.notebook.specs.declared.notebook.Notebook.{Notebook}
 use Rattle.notebook.specs.declared.fault.NotebookFault.{NotebookFault}
-use Rattle.notebook.specs.Books.{logged_events, check_fault, no_counts, admitted_counts}
-use Rattle.notebook.specs.Places.{no_logged_event, free, holder_number}
-
--- of the counts, the locks, the numbers of events of each thread, the log, and how many places the stamps have
-pub record Sound (c : Counts) (locks : List Lock) (seen : List ℕ) (log : Kept LoggedEvent) (places : ℕ) : Type 0 where
-  pub few : c.threads ≤ 32
-  pub some : c.locks ≤ 256
-  pub many : c.variables ≤ 1024
-  pub every : length locks ≡ 256
-  pub each : length seen ≡ 32
-  pub whole : log.total ≤ length log.table
-  pub short : log.total ≤ 65535
-  pub stamped : log.total * c.threads ≤ places
-  pub inside : (i : ℕ) → i < log.total → thread_at (logged_events log) i < c.threads
-  pub timed : (i : ℕ) → i < log.total → (get_or log.table i no_logged_event).time ≡ local (logged_events log) i
-  pub counted : (t : ℕ) → t < 32 → get_or seen t 0 ≡ count (logged_events log) t log.total
-  pub held : (l : ℕ) → l < 256 → holder_number (get_or locks l free).holder ≡ holder_number (holder (logged_events log) l log.total)
-
-pub sound : (n : Notebook) → Sound n.counts n.locks n.seen (kept n.tables.log) (length n.tables.stamps.cells.now)
-sound n = record {
-  few = n.few;
-  some = n.some;
-  many = n.many;
-  every = n.every;
-  each = n.each;
-  whole = n.whole;
-  short = n.short;
-  stamped = n.stamped;
-  inside = n.inside;
-  timed = n.timed;
-  counted = n.counted;
-  held = n.held;
-}
+use Rattle.notebook.specs.Books.{check_fault, no_counts, admitted_counts}
+use Rattle.notebook.specs.Sound.{Sound}
+use Rattle.notebook.specs.Places.{free, holder_number}
 
 pub sound_as : {c : Counts} {locks : List Lock} {seen : List ℕ} {log log' : Kept LoggedEvent} {places : ℕ} → log' ≡ log
     → Sound c locks seen log places → Sound c locks seen log' places

@@ -1,8 +1,8 @@
 -- What a notebook that a run has reached tells: times, the order, and all pairs. Assumes nothing.
-use Rattle.std.proofs.Common.{◌≡◌, ℕ, ◌+◌, ◌<◌, ◌≤◌, Bool, ◌&&◌, ltb, leb, ◌↔◌, List, length, get_or, take, None, Ok, Err, Decides, Result, sym, ap, ◌∙◌, subst, ap₂, mul-le-mul, zero-add, arith}
+use Rattle.std.proofs.Common.{◌≡◌, ℕ, ◌+◌, ◌<◌, ◌≤◌, Bool, ◌&&◌, ltb, leb, ◌↔◌, List, length, get_or, take, None, Ok, Err, IsTrue, Result, sym, ap, ◌∙◌, subst, ap₂, mul-le-mul, zero-add, arith}
 use Rattle.std.specs.List.{slice_get}
 use Rattle.std.proofs.lemmas.Bool.{and_parts, ltb-true, leb-true, le-leb}
-use Rattle.keep_list.specs.Kept.{Kept, kept, empty, records, all_added, most}
+use Rattle.keep_list.specs.Kept.{Kept, empty, records, all_added, most}
 use Rattle.keep_list.proofs.Records.{length_all_added, total_all_added, records_all_added}
 use Rattle.clock_bank.specs.Rows.{Rows}
 use Rattle.clock_bank.specs.Faults.{require}
@@ -53,7 +53,7 @@ module _ (n : Notebook) (s : Start) (r : OrderRule) (law : Lawful r) (log : List
   accepts = subst (λ (x : Counts). Accepted x log) (sym counts_are) f.accepts
 
   short : length log ≤ 65535
-  short = omega (arith, n.short, length_events (kept n.tables.log) n.whole, ap length f.logs)
+  short = omega (arith, n.sound.short, length_events n.tables.log n.sound.whole, ap length f.logs)
 
   stamps : (i : ℕ) → i < length log → stamp_held (book n) i ≡ stamp r n.counts log i
   stamps i h = f.stamps i h ∙ ap (λ (x : Counts). stamp r x log i) (sym counts_are)
@@ -61,8 +61,8 @@ module _ (n : Notebook) (s : Start) (r : OrderRule) (law : Lawful r) (log : List
   pub keeps : KeepsAccount n log
   keeps = record {
     logs = f.logs;
-    holds = λ l h. holder_one _ _ (n.held l (omega (arith, n.some))) ∙ ap₂ (λ (es : List Event) (m : ℕ). holder es l m) f.logs
-        (sym (length_events (kept n.tables.log) n.whole) ∙ ap length f.logs);
+    holds = λ l h. holder_one _ _ (n.sound.held l (omega (arith, n.sound.some))) ∙ ap₂ (λ (es : List Event) (m : ℕ). holder es l m) f.logs
+        (sym (length_events n.tables.log n.sound.whole) ∙ ap length f.logs);
     accepts = accepts;
   }
 
@@ -96,7 +96,7 @@ module _ (n : Notebook) (s : Start) (r : OrderRule) (law : Lawful r) (log : List
       let test : v ≡ leb (local log i) (get_or (stamp_held (book n) j) (thread_at log i) 0) =
       told.1 ∙ ap (λ (es : List Event). leb (local es i) (get_or (stamp_held (book n) j) (thread_at es i) 0)) f.logs in
       let order = order_told i j i-in j-in in
-      of_order r law n.counts log accepts (λ B. Decides v (B i j)) (λ B C same d. (λ e. (same i j).0 (d.0 e), λ b. d.1 ((same i j).1 b)))
+      of_order r law n.counts log accepts (λ B. IsTrue v ↔ B i j) (λ B C same d. (λ e. (same i j).0 (d.0 e), λ b. d.1 ((same i j).1 b)))
       (λ e. order.1 (leb-true _ _ (sym test ∙ e)), λ b. test ∙ le-leb _ _ (order.0 b))
 
   few : 0 + length (found r n.counts log) ≤ most

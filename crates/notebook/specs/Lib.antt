@@ -2,6 +2,7 @@ pub mod Faults
 pub mod Locks
 pub mod Places
 pub mod Books
+pub mod Sound
 pub mod Notes
 pub mod Parts
 pub mod Tables

@@ -1,14 +1,10 @@
 -- What an operation finds and does at its lock. Assumes nothing.
-use Rattle.std.specs.Prelude.{ℕ, Bool, true, false, Some, None, Option, ◌==◌}
+use Rattle.std.specs.Prelude.{ℕ, Bool, false, Some, None, Option, is_none, ◌==◌}
 use Rattle.clock_bank.specs.Faults.{require, unless}
 use Rattle.events.specs.declared.event.Operation.{Operation}
 use Rattle.events.specs.declared.event.Operation.TheVariants.{Read, Write, Acquire, Release}
 use Rattle.notebook.specs.declared.fault.NotebookFault.{NotebookFault}
 use Rattle.notebook.specs.declared.fault.NotebookFault.TheVariants.{LockHeld, NotHolder}
-
-abbrev pub is_free : Option ℕ → Bool
-is_free None = true
-is_free (Some u) = false
 
 abbrev pub is_held_by : ℕ → Option ℕ → Bool
 is_held_by t None = false
@@ -18,7 +14,7 @@ is_held_by t (Some u) = u == t
 abbrev pub lock_fault : Option ℕ → ℕ → Operation → Option NotebookFault
 lock_fault o t (Read v) = None
 lock_fault o t (Write v) = None
-lock_fault o t (Acquire l) = require (is_free o) LockHeld None
+lock_fault o t (Acquire l) = require (is_none o) LockHeld None
 lock_fault o t (Release l) = require (is_held_by t o) NotHolder None
 
 -- an acquire makes its thread the holder, and a release leaves none; what is refused changes nothing

@@ -54,18 +54,20 @@ has_room m n = (nat_lt n m.log_places && nat_le (n * m.counts.threads + m.counts
 abbrev pub held_by : List Event → ℕ → Option ℕ
 held_by log l = holder log l (length log)
 
--- the conditions 8 to 12 of an event that would follow a trace, with a bank of k threads and s slots and a rule of this
--- number, and then what comes next
-abbrev pub admission : Setting → ℕ → ℕ → ℕ → List Event → Event → Option NotebookFault → Option NotebookFault
-admission m k s number log e next =
-    require (fits m k s number) Misfit
-    (require (nat_lt e.thread m.counts.threads) NoThread
+-- the conditions 9 to 12 of an event that would follow a trace, and then what comes next
+abbrev pub admission : Setting → List Event → Event → Option NotebookFault → Option NotebookFault
+admission m log e next =
+    require (nat_lt e.thread m.counts.threads) NoThread
     (require (is_object_of m.counts e.operation) NoObject
-    (first (lock_fault (held_by log (object_of e.operation)) e.thread e.operation) next)))
+    (first (lock_fault (held_by log (object_of e.operation)) e.thread e.operation) next))
 
--- the conditions 8 to 13
+-- the conditions 9 to 13
+abbrev pub own_fault : Setting → List Event → Event → Option NotebookFault
+own_fault m log e = admission m log e (require (has_room m (length log)) Full None)
+
+-- the conditions 8 to 13, with a bank of k threads and s slots and a rule of this number
 abbrev pub event_fault : Setting → ℕ → ℕ → ℕ → List Event → Event → Option NotebookFault
-event_fault m k s number log e = admission m k s number log e (require (has_room m (length log)) Full None)
+event_fault m k s number log e = require (fits m k s number) Misfit (own_fault m log e)
 
 -- the bank's own, where the rule moves it by the event
 abbrev pub move_fault : OrderRule → ℕ → Rows → Event → Option BankFault

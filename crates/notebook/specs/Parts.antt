@@ -47,14 +47,6 @@ pub record Timed (log : Kept LoggedEvent) (k n : ℕ) : Type 0 where
   pub inside : (i : ℕ) → i < log.total → thread_at (logged_events log) i < k
   pub timed : (i : ℕ) → i < log.total → (slice_index_or log.table i no_logged_event).time ≡ local (logged_events log) i
 
--- the tables with the pairs of an event, whose stamp is row, with the positions below i
-abbrev pub paired : Written → Event → List ℕ → ℕ → ℕ → Written
-paired w e row n i = record {
-  log = w.log;
-  stamps = w.stamps;
-  pairs = all_added w.pairs (pairs_with (unseen_by (logged_events w.log) e row) n i);
-}
-
 -- the tables with the stamp of the event at n, a row of k numbers, and with its pairs
 abbrev pub stamped : Written → Event → List ℕ → ℕ → ℕ → Written
 stamped w e row k n = record {

@@ -1,5 +1,5 @@
 -- What the questions answer, and what the answers mean in a run. Assumes nothing.
-use Rattle.std.specs.Prelude.{◌≡◌, ℕ, ◌<◌, Bool, ◌&&◌, List, length, take, IfOk, Some, None, Ok, Err, Decides, Option, Result, nat_le, nat_lt, slice_index, slice_index_or}
+use Rattle.std.specs.Prelude.{◌≡◌, ℕ, ◌<◌, Bool, ◌&&◌, List, length, take, IfOk, IsTrue, ◌↔◌, Some, None, Ok, Err, Option, Result, nat_le, nat_lt, slice_index, slice_index_or}
 use Rattle.std.specs.List.{slice_get}
 use Rattle.keep_list.specs.Kept.{records}
 use Rattle.clock_bank.specs.Faults.{or_fault, require}
@@ -59,7 +59,7 @@ TellsTime i t answer c r log = IfOk answer (λ v. OfOrder r c log (λ B. Time B 
 
 -- "before or equal" is answered as the order says
 abbrev pub TellsOrder : ℕ → ℕ → Result Bool NotebookFault → Counts → OrderRule → List Event → Type 0
-TellsOrder i j answer c r log = IfOk answer (λ yes'. OfOrder r c log (λ B. Decides yes' (B i j)))
+TellsOrder i j answer c r log = IfOk answer (λ yes'. OfOrder r c log (λ B. IsTrue yes' ↔ B i j))
 
 -- the total is the number of all pairs
 abbrev pub TellsTotal : ℕ → Counts → OrderRule → List Event → Type 0

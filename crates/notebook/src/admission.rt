@@ -1,15 +1,16 @@
-// Which events a notebook admits.
+// Which events a notebook admits. Numbers are widened by `as`, which the check proves to lose nothing.
 ghost use Rattle.std.specs.Prelude.{◌≡◌, true, None};
 ghost use Rattle.clock_bank.specs.Faults.{or_fault, require};
 ghost use Rattle.events.specs.Events.{object_of};
-ghost use Rattle.notebook.specs.declared.fault.NotebookFault.TheVariants.{Full};
+ghost use Rattle.notebook.specs.declared.fault.NotebookFault.TheVariants.{Misfit};
 ghost use Rattle.notebook.specs.Locks.{lock_fault};
 ghost use Rattle.notebook.specs.Books.{events};
-ghost use Rattle.notebook.specs.Notes.{setting, fits, is_object_of, held_by, admission, event_fault};
+ghost use Rattle.notebook.specs.Notes.{setting, fits, is_object_of, held_by, admission, own_fault};
 ghost use Rattle.notebook.specs.View.{book};
 
 use crate::fault::NotebookFault;
 use crate::notebook::Notebook;
+use clock_bank::counts::BankCounts;
 use events::event::{Event, Operation};
 use orders::counts::Counts;
 
@@ -18,77 +19,57 @@ fn has_object(counts: Counts, operation: Operation) -> bool
     ensures { result ≡ is_object_of counts operation }
 {
     match operation {
-        Operation::Read(v) => v < counts.variables,
-        Operation::Write(v) => v < counts.variables,
-        Operation::Acquire(l) => l < counts.locks,
-        Operation::Release(l) => l < counts.locks,
+        Operation::Read(v) | Operation::Write(v) => v < counts.variables,
+        Operation::Acquire(l) | Operation::Release(l) => l < counts.locks,
     }
 }
 
 impl<'a> Notebook<'a> {
     // Whether a bank of these counts and a rule of this number are those that the notebook is for.
-    fn fits(&self, threads: u16, slots: u32, rule: u16) -> bool
-        ensures { result ≡ fits (setting (book self.now)) threads slots rule }
+    pub(crate) fn check_fit(&self, bank: BankCounts, rule: u16) -> Result<(), NotebookFault>
+        ensures { result ≡ or_fault (require (fits (setting (book self.now)) bank.threads bank.slots rule) Misfit None) tt }
     {
-        let needed = self.counts.locks as u32 + self.counts.variables as u32;
-        (threads == self.counts.threads) & (slots == needed) & (rule == self.rule)
+        if bank == BankCounts::from(self.counts) && rule == self.rule {
+            Ok(())
+        } else {
+            Err(NotebookFault::Misfit)
+        }
     }
 
-    // Why an event is refused at its lock, or none.
-    fn lock_refusal(&self, event: Event) -> Option<NotebookFault>
+    // Whether an event is admitted at its lock.
+    fn check_lock(&self, event: Event) -> Result<(), NotebookFault>
         requires { is_object_of self.now.counts event.operation ≡ true }
-        ensures { result ≡ lock_fault (held_by (events (book self.now)) (object_of event.operation)) event.thread event.operation }
+        ensures { result ≡ or_fault (lock_fault (held_by (events (book self.now)) (object_of event.operation)) event.thread event.operation) tt }
     {
         match event.operation {
-            Operation::Read(_) => None,
-            Operation::Write(_) => None,
-            Operation::Acquire(l) => self.locks[l as usize].refusal(event.thread, event.operation),
-            Operation::Release(l) => self.locks[l as usize].refusal(event.thread, event.operation),
+            Operation::Read(_) | Operation::Write(_) => Ok(()),
+            Operation::Acquire(l) | Operation::Release(l) => self.locks[l as usize].check(event),
         }
     }
 
-    // Why an event is refused: `room` says whether there is room for it.
-    fn admit(
-        &self,
-        threads: u16,
-        slots: u32,
-        rule: u16,
-        event: Event,
-        room: bool,
-    ) -> Result<(), NotebookFault>
-        ensures { result ≡ or_fault (admission (setting (book self.now)) threads slots rule (events (book self.now)) event (require room Full None)) tt }
+    // Whether an event is admitted, where there is room for it.
+    fn admit(&self, event: Event) -> Result<(), NotebookFault>
+        ensures { result ≡ or_fault (admission (setting (book self.now)) (events (book self.now)) event None) tt }
     {
-        if !self.fits(threads, slots, rule) {
-            return Err(NotebookFault::Misfit);
-        }
         if event.thread >= self.counts.threads {
             return Err(NotebookFault::NoThread);
         }
         if !has_object(self.counts, event.operation) {
             return Err(NotebookFault::NoObject);
         }
-        if let Some(fault) = self.lock_refusal(event) {
-            return Err(fault);
-        }
-        if room {
+        self.check_lock(event)
+    }
+
+    // Whether an event can be noted, before its bank is asked.
+    pub(crate) fn check_event(&mut self, event: Event) -> Result<(), NotebookFault>
+        ensures same { book self.new ≡ book self.old }
+        ensures answer { result ≡ or_fault (own_fault (setting (book self.old)) (events (book self.old)) event) tt }
+    {
+        self.admit(event)?;
+        if self.tables.has_room(self.counts.threads) {
             Ok(())
         } else {
             Err(NotebookFault::Full)
         }
-    }
-
-    // Whether an event can be noted, before its bank is asked.
-    pub(crate) fn check_event(
-        &mut self,
-        threads: u16,
-        slots: u32,
-        rule: u16,
-        event: Event,
-    ) -> Result<(), NotebookFault>
-        ensures same { book self.new ≡ book self.old }
-        ensures answer { result ≡ or_fault (event_fault (setting (book self.old)) threads slots rule (events (book self.old)) event) tt }
-    {
-        let room = self.tables.has_room(self.counts.threads);
-        self.admit(threads, slots, rule, event, room)
     }
 }

@@ -8,16 +8,16 @@ use crate::fault::NotebookFault;
 use crate::lock::Lock;
 use crate::log::LoggedEvent;
 use crate::notebook::Notebook;
-use crate::tables::{Stamps, Tables};
+use crate::tables::Tables;
+use clock_bank::counts::MOST_THREADS;
 use keep_list::KeepList;
 use orders::counts::Counts;
 use orders::pair::PositionPair;
 
-const NO_COUNTS: Counts = Counts {
-    threads: 0,
-    locks: 0,
-    variables: 0,
-};
+// The most locks and variables of a notebook; the most threads are a bank's.
+const MOST_LOCKS: u16 = 256;
+
+const MOST_VARIABLES: u16 = 1024;
 
 // The counts of a notebook that is made for these: the same, or none where the check fails.
 fn admitted(counts: Counts) -> Counts
@@ -25,7 +25,7 @@ fn admitted(counts: Counts) -> Counts
 {
     match Notebook::check(counts) {
         Ok(()) => counts,
-        Err(_) => NO_COUNTS,
+        Err(_) => Counts::default(),
     }
 }
 
@@ -34,8 +34,8 @@ impl<'a> Notebook<'a> {
     pub fn check(counts: Counts) -> Result<(), NotebookFault>
         ensures { result ≡ or_fault (check_fault counts) tt }
     {
-        let threads = (counts.threads >= 1) & (counts.threads <= 32);
-        if threads & (counts.locks <= 256) & (counts.variables <= 1024) {
+        let threads = (1..=MOST_THREADS).contains(&counts.threads);
+        if threads && counts.locks <= MOST_LOCKS && counts.variables <= MOST_VARIABLES {
             Ok(())
         } else {
             Err(NotebookFault::CountLimit)
@@ -59,7 +59,7 @@ impl<'a> Notebook<'a> {
             seen: [0; 32],
             tables: Tables {
                 log: KeepList::new(log),
-                stamps: Stamps { cells: stamps },
+                stamps,
                 pairs: KeepList::new(pairs),
             },
         }

@@ -1,9 +1,11 @@
 // Why a notebook refuses.
-ghost use Rattle.std.specs.Prelude.{◌≡◌};
+ghost use Rattle.std.specs.Prelude.{◌≡◌, Some};
 ghost use Rattle.notebook.specs.declared.fault.NotebookFault.TheVariants.{Bank};
-ghost use Rattle.notebook.specs.Faults.{fault_number};
+ghost use Rattle.notebook.specs.Faults.{fault_number, fault_reason};
 
 use clock_bank::fault::BankFault;
+use std::error::Error;
+use std::fmt;
 
 // A refusal leaves bank, notebook and tables as they were.
 #[derive(Clone, Copy, PartialEq, Eq, Debug)]
@@ -39,7 +41,8 @@ impl From<BankFault> for NotebookFault {
 }
 
 impl NotebookFault {
-    // The number by which a refusal is known and printed; a bank's refusal keeps its own.
+    // The number by which a refusal is known and printed. It is no cast, since one case holds a bank's refusal, which
+    // keeps its own.
     pub fn number(self) -> u16
         ensures { result ≡ fault_number self }
     {
@@ -57,3 +60,25 @@ impl NotebookFault {
         }
     }
 }
+
+// The reason of a refusal, in words.
+impl fmt::Display for NotebookFault {
+    ghost output = { λ fault. Some (fault_reason fault) };
+
+    fn fmt<W: fmt::Write>(&self, f: &mut fmt::Formatter<W>) -> fmt::Result {
+        match self {
+            NotebookFault::CountLimit => f.write_str("a count is outside its limits"),
+            NotebookFault::Misfit => f.write_str("the bank or the rule is not the notebook's"),
+            NotebookFault::NoThread => f.write_str("no thread has that number"),
+            NotebookFault::NoObject => f.write_str("no lock or variable has that number"),
+            NotebookFault::LockHeld => f.write_str("the lock is held"),
+            NotebookFault::NotHolder => f.write_str("the thread does not hold the lock"),
+            NotebookFault::Full => f.write_str("the log or the stamps are full"),
+            NotebookFault::NoPosition => f.write_str("no event has that position"),
+            NotebookFault::NotHeld => f.write_str("the table holds no such pair"),
+            NotebookFault::Bank(fault) => write!(f, "{fault}"),
+        }
+    }
+}
+
+impl Error for NotebookFault {}

@@ -1,9 +1,10 @@
 // Locks: free, or held by one thread.
 ghost use Rattle.std.specs.Prelude.{◌≡◌};
+ghost use Rattle.clock_bank.specs.Faults.{or_fault};
 ghost use Rattle.notebook.specs.Locks.{lock_fault, lock_after};
 
 use crate::fault::NotebookFault;
-use events::event::Operation;
+use events::event::{Event, Operation};
 
 #[derive(Clone, Copy, PartialEq, Eq, Debug)]
 pub struct Lock {
@@ -11,25 +12,25 @@ pub struct Lock {
 }
 
 impl Lock {
-    // Why an operation of a thread on this lock is refused, or none. An access is on no lock.
-    pub fn refusal(self, thread: u16, operation: Operation) -> Option<NotebookFault>
-        ensures { result ≡ lock_fault self.holder thread operation }
+    // Whether an event is admitted on this lock. An access is on no lock.
+    pub fn check(self, event: Event) -> Result<(), NotebookFault>
+        ensures { result ≡ or_fault (lock_fault self.holder event.thread event.operation) tt }
     {
-        match (self.holder, operation) {
-            (Some(_), Operation::Acquire(_)) => Some(NotebookFault::LockHeld),
-            (Some(owner), Operation::Release(_)) if owner == thread => None,
-            (_, Operation::Release(_)) => Some(NotebookFault::NotHolder),
-            _ => None,
+        match (self.holder, event.operation) {
+            (Some(_), Operation::Acquire(_)) => Err(NotebookFault::LockHeld),
+            (Some(owner), Operation::Release(_)) if owner == event.thread => Ok(()),
+            (_, Operation::Release(_)) => Err(NotebookFault::NotHolder),
+            _ => Ok(()),
         }
     }
 
-    // What an operation of a thread on this lock does to it.
-    pub fn change(&mut self, thread: u16, operation: Operation)
-        ensures { self.new.holder ≡ lock_after operation thread self.old.holder }
+    // What an event on this lock does to it.
+    pub fn change(&mut self, event: Event)
+        ensures { self.new.holder ≡ lock_after event.operation event.thread self.old.holder }
     {
-        match (self.holder, operation) {
-            (None, Operation::Acquire(_)) => self.holder = Some(thread),
-            (Some(owner), Operation::Release(_)) if owner == thread => self.holder = None,
+        match (self.holder, event.operation) {
+            (None, Operation::Acquire(_)) => self.holder = Some(event.thread),
+            (Some(owner), Operation::Release(_)) if owner == event.thread => self.holder = None,
             _ => {}
         }
     }

@@ -1,4 +1,4 @@
-// The log's records.
+// The log's records. Numbers are widened by `as`, which the check proves to lose nothing.
 ghost use Rattle.std.specs.Prelude.{◌≡◌, ◌&&◌, nat_lt};
 ghost use Rattle.events.specs.Conflicts.{conflicts};
 
@@ -16,6 +16,6 @@ impl LoggedEvent {
     pub fn unseen_by(self, later: Event, known: u32) -> bool
         ensures { result ≡ conflicts self.event later && nat_lt known self.time }
     {
-        self.event.conflicts_with(later) & (known < self.time as u32)
+        self.event.conflicts_with(later) && known < self.time as u32
     }
 }

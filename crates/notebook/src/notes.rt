@@ -1,13 +1,14 @@
-// Note: an event more, with its stamp and its pairs.
+// Note: an event more, with its stamp and its pairs. Numbers are widened by `as`, which the check proves to lose
+// nothing. An event, its stamp and its position are passed side by side: of a struct that held the lent stamp each clause
+// would have to say whether it means the value at entry or at exit. `Timed` is asked by those that read the log, which is
+// not theirs: it follows from the notebook's invariant.
 ghost use Rattle.std.specs.Prelude.{◌≡◌, ◌+◌, ◌*◌, ◌<◌, ◌≤◌, [], length, slice_index_or};
-ghost use Rattle.std.proofs.Math.Seq.{paste};
-ghost use Rattle.keep_list.specs.Kept.{kept};
-ghost use Rattle.clock_bank.specs.Runs.{run};
+ghost use Rattle.keep_list.specs.Kept.{all_added};
 ghost use Rattle.clock_bank.specs.Faults.{or_fault, unless};
-ghost use Rattle.orders.specs.Stamps.{moved, unseen_by};
+ghost use Rattle.orders.specs.Stamps.{moved, unseen_by, pairs_with};
 ghost use Rattle.notebook.specs.Books.{logged_events, events};
 ghost use Rattle.notebook.specs.Notes.{move_fault, noted, Note};
-ghost use Rattle.notebook.specs.Parts.{Timed, paired, stamped, Admitted, LockBelow, locks_after};
+ghost use Rattle.notebook.specs.Parts.{Timed, stamped, Admitted, LockBelow, locks_after};
 ghost use Rattle.notebook.specs.Tables.{written};
 ghost use Rattle.notebook.specs.View.{book};
 
@@ -15,87 +16,73 @@ use crate::fault::NotebookFault;
 use crate::lock::Lock;
 use crate::log::LoggedEvent;
 use crate::notebook::Notebook;
-use crate::tables::{Stamps, Tables};
+use crate::tables::Tables;
 use clock_bank::bank::Bank;
 use clock_bank::fault::BankFault;
 use events::event::{Event, Operation};
 use events::rule::Rule;
+use keep_list::KeepList;
 use orders::pair::PositionPair;
 
-impl<'a> Stamps<'a> {
-    // Writes a thread's row of the bank from a place on.
-    fn write_row<B: Bank>(&mut self, start: usize, bank: &B, thread: u16)
-        requires thread_in_bounds { thread < length (B.Bank.rows bank.now).threads }
-        requires bank_in_bounds { start + length (B.Bank.rows bank.now).threads ≤ length self.old.cells.now }
-        ensures { self.new.cells.now ≡ paste self.old.cells.now start (slice_index_or (B.Bank.rows bank.now).threads thread []) (length (B.Bank.rows bank.now).threads) }
-    {
-        for column in 0..bank.thread_count() {
-            if let Ok(entry) = bank.thread_entry(thread, column) {
-                self.cells[start + column as usize] = entry;
-            }
+// Writes a thread's row of the bank into a row. A column fits its 16 bits, as a row has few.
+fn write_row<B: Bank>(row: &mut [u32], bank: &B, thread: u16)
+    requires thread_in_bounds { thread < length (B.Bank.rows bank.now).threads }
+    requires row_len { length row.old ≡ length (B.Bank.rows bank.now).threads }
+    requires few { length row.old ≤ 32 }
+    ensures { row.new ≡ slice_index_or (B.Bank.rows bank.now).threads thread [] }
+{
+    for (column, number) in row.iter_mut().enumerate() {
+        *number = bank.thread_entry(thread, column as u16).unwrap();
+    }
+}
+
+// Whether the event at an earlier position is unseen by a later one with this stamp.
+fn races(log: &mut KeepList<LoggedEvent>, earlier: u16, event: Event, stamp: &[u32]) -> bool
+    requires timed { Timed log.old (length stamp.now) (earlier + 1) }
+    ensures same { log.new ≡ log.old }
+    ensures value { result ≡ unseen_by (logged_events log.old) event stamp.now earlier }
+{
+    let logged = log.get(earlier as u32).unwrap();
+    logged.unseen_by(event, stamp[logged.event.thread as usize])
+}
+
+// Adds the pairs of the event at `position`, with this stamp, with all earlier ones. A keep-list tells its records by
+// their indices, and the positions are what a pair is made of.
+fn scan(
+    log: &mut KeepList<LoggedEvent>,
+    pairs: &mut KeepList<PositionPair>,
+    event: Event,
+    stamp: &[u32],
+    position: u16,
+)
+    requires timed { Timed log.old (length stamp.now) position }
+    ensures same { log.new ≡ log.old }
+    ensures added { pairs.new ≡ all_added pairs.old (pairs_with (unseen_by (logged_events log.old) event stamp.now) position position) }
+{
+    // the pairs with the positions passed are added, and nothing else has changed
+    for earlier in 0..position {
+        if races(log, earlier, event, stamp) {
+            pairs.add(PositionPair {
+                earlier,
+                later: position,
+            });
         }
     }
 }
 
 impl<'a> Tables<'a> {
-    // Whether the event at an earlier position is unseen by a later one, whose stamp begins at `start`.
-    fn races(&mut self, earlier: u16, event: Event, threads: u16, start: usize) -> bool
-        requires timed { Timed (kept self.old.log) threads (earlier + 1) }
-        requires threads_in_bounds { start + threads ≤ length self.old.stamps.cells.now }
-        ensures same { written self.new ≡ written self.old }
-        ensures value { result ≡ unseen_by (logged_events (kept self.old.log)) event (run start threads self.old.stamps.cells.now) earlier }
+    // Writes the stamp of the event at `position`, and adds its pairs. An acquire or a release conflicts with nothing,
+    // so that nothing has to be passed.
+    fn stamp(&mut self, event: Event, position: u16, stamp: &[u32])
+        requires timed { Timed self.old.log (length stamp.now) position }
+        requires in_bounds { position * length stamp.now + length stamp.now ≤ length self.old.stamps.now }
+        ensures { written self.new ≡ stamped (written self.old) event stamp.now (length stamp.now) position }
     {
-        match self.log.get(earlier as u32) {
-            None => false,
-            Some(logged) => {
-                let known = self.stamps.cells[start + logged.event.thread as usize];
-                logged.unseen_by(event, known)
-            }
+        let start = position as usize * stamp.len();
+        self.stamps[start..start + stamp.len()].copy_from_slice(stamp);
+        if event.operation.is_access() {
+            scan(&mut self.log, &mut self.pairs, event, stamp, position);
         }
-    }
-
-    // Adds the pairs of the event at `position` with all earlier ones.
-    fn scan(&mut self, event: Event, threads: u16, position: u16, start: usize)
-        requires timed { Timed (kept self.old.log) threads position }
-        requires threads_in_bounds { start + threads ≤ length self.old.stamps.cells.now }
-        ensures { written self.new ≡ paired (written self.old) event (run start threads self.old.stamps.cells.now) position position }
-    {
-        // the pairs with the positions passed are added, and nothing else has changed
-        for earlier in 0..position {
-            if self.races(earlier, event, threads, start) {
-                self.pairs.add(PositionPair {
-                    earlier,
-                    later: position,
-                });
-            }
-        }
-    }
-
-    // The same; an acquire or a release conflicts with nothing, so that nothing has to be passed.
-    fn pair_up(&mut self, event: Event, threads: u16, position: u16, start: usize)
-        requires timed { Timed (kept self.old.log) threads position }
-        requires threads_in_bounds { start + threads ≤ length self.old.stamps.cells.now }
-        ensures { written self.new ≡ paired (written self.old) event (run start threads self.old.stamps.cells.now) position position }
-    {
-        match event.operation {
-            Operation::Read(_) => self.scan(event, threads, position, start),
-            Operation::Write(_) => self.scan(event, threads, position, start),
-            Operation::Acquire(_) => {}
-            Operation::Release(_) => {}
-        }
-    }
-
-    // Writes the stamp of the event at `position`, its thread's row of the bank, and adds its pairs.
-    fn stamp<B: Bank>(&mut self, bank: &B, event: Event, position: u16)
-        requires timed { Timed (kept self.old.log) (length (B.Bank.rows bank.now).threads) position }
-        requires thread_in_bounds { event.thread < length (B.Bank.rows bank.now).threads }
-        requires bank_in_bounds { position * length (B.Bank.rows bank.now).threads + length (B.Bank.rows bank.now).threads ≤ length self.old.stamps.cells.now }
-        ensures { written self.new ≡ stamped (written self.old) event (slice_index_or (B.Bank.rows bank.now).threads event.thread []) (length (B.Bank.rows bank.now).threads) position }
-    {
-        let threads = bank.thread_count();
-        let start = position as usize * threads as usize;
-        self.stamps.write_row(start, bank, event.thread);
-        self.pair_up(event, threads, position, start);
     }
 }
 
@@ -105,10 +92,8 @@ fn change_lock(locks: &mut [Lock; 256], event: Event)
     ensures { locks.new ≡ locks_after locks.old event.thread event.operation }
 {
     match event.operation {
-        Operation::Read(_) => {}
-        Operation::Write(_) => {}
-        Operation::Acquire(l) => locks[l as usize].change(event.thread, event.operation),
-        Operation::Release(l) => locks[l as usize].change(event.thread, event.operation),
+        Operation::Read(_) | Operation::Write(_) => {}
+        Operation::Acquire(l) | Operation::Release(l) => locks[l as usize].change(event),
     }
 }
 
@@ -121,7 +106,10 @@ impl<'a> Notebook<'a> {
         ensures after { book self.new ≡ noted (book self.old) event (slice_index_or (B.Bank.rows bank.now).threads event.thread []) }
     {
         let position = self.tables.log.total() as u16;
-        self.tables.stamp(bank, event, position);
+        let mut row = [0; 32];
+        let stamp = &mut row[..self.counts.threads as usize];
+        write_row(stamp, bank, event.thread);
+        self.tables.stamp(event, position, stamp);
         let time = self.seen[event.thread as usize] + 1;
         self.seen[event.thread as usize] = time;
         self.tables.log.add(LoggedEvent { event, time });
@@ -140,8 +128,7 @@ fn follow<B: Bank, R: Rule>(
     ensures answer { result ≡ or_fault (move_fault R.Rule.means locks (B.Bank.rows bank.old) event) tt }
     ensures after { B.Bank.rows bank.new ≡ unless (move_fault R.Rule.means locks (B.Bank.rows bank.old) event) (moved R.Rule.means locks (B.Bank.rows bank.old) event) (B.Bank.rows bank.old) }
 {
-    let slots = R::slots(event.operation, locks);
-    bank.advance(event.thread, slots.take, slots.post)
+    bank.advance(event.thread, R::slots(event.operation, locks))
 }
 
 // Advances the bank by the rule's slots, logs the event with its stamp, and adds its pairs with earlier events; the
@@ -154,12 +141,8 @@ pub fn note<B: Bank, R: Rule>(
 ) -> Result<u16, NotebookFault>
     ensures { Note R.Rule.means (B.Bank.rows bank.old) (book notebook.old) event result (B.Bank.rows bank.new) (book notebook.new) }
 {
-    notebook.check_event(
-        bank.thread_count(),
-        bank.slot_count(),
-        R::rule_number(),
-        event,
-    )?;
+    notebook.check_fit(bank.counts(), R::NUMBER)?;
+    notebook.check_event(event)?;
     follow(bank, rule, event, notebook.counts.locks)?;
     Ok(notebook.enter(bank, event))
 }

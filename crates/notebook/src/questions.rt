@@ -1,11 +1,17 @@
-// The questions of a notebook. They take it for writing, as its keep-lists do, and promise no change.
+// The questions of a notebook. They take it for writing, as its keep-lists do, and promise no change. Numbers are
+// widened by `as`, which the check proves to lose nothing.
 ghost use Rattle.std.specs.Prelude.{◌≡◌, length};
 ghost use Rattle.notebook.specs.Books.{events};
 ghost use Rattle.notebook.specs.Runs.{InEveryRun};
 ghost use Rattle.notebook.specs.Questions.{event_answer, stamp_answer, before_answer, pair_answer, KeepsAccount, TellsTime, TellsOrder, TellsTotal, TellsPair};
 ghost use Rattle.notebook.specs.View.{book};
+ghost use Rattle.std.specs.Option.{ok_or};
+ghost use Rattle.std.specs.List.{slice_get};
+ghost use Rattle.keep_list.specs.Kept.{records};
+ghost use Rattle.notebook.specs.declared.fault.NotebookFault.TheVariants.{NoPosition};
 
 use crate::fault::NotebookFault;
+use crate::log::LoggedEvent;
 use crate::notebook::Notebook;
 use events::event::Event;
 use orders::pair::PositionPair;
@@ -20,15 +26,24 @@ impl<'a> Notebook<'a> {
         self.tables.log.total() as u16
     }
 
+    // The record of the event at a position.
+    fn record_at(&mut self, position: u16) -> Result<LoggedEvent, NotebookFault>
+        ensures same { book self.new ≡ book self.old }
+        ensures value { result ≡ ok_or (slice_get (records (book self.old).tables.log) position) NoPosition }
+    {
+        self.tables
+            .log
+            .get(position as u32)
+            .ok_or(NotebookFault::NoPosition)
+    }
+
     // The event at a position.
     pub fn event(&mut self, position: u16) -> Result<Event, NotebookFault>
         ensures same { book self.new ≡ book self.old }
         ensures value { result ≡ event_answer (book self.old) position }
     {
-        match self.tables.log.get(position as u32) {
-            Some(logged) => Ok(logged.event),
-            None => Err(NotebookFault::NoPosition),
-        }
+        let logged = self.record_at(position)?;
+        Ok(logged.event)
     }
 
     // How far the event at a position knows a thread: the number of that thread in its stamp.
@@ -44,7 +59,7 @@ impl<'a> Notebook<'a> {
             return Err(NotebookFault::NoThread);
         }
         let start = position as usize * self.counts.threads as usize;
-        Ok(self.tables.stamps.cells[start + thread as usize])
+        Ok(self.tables.stamps[start + thread as usize])
     }
 
     // Whether the event at one position is before that at another, or is it.
@@ -53,9 +68,7 @@ impl<'a> Notebook<'a> {
         ensures value { result ≡ before_answer (book self.old) first second }
         ensures order { InEveryRun self.old (TellsOrder first second result self.old.counts) }
     {
-        let Some(logged) = self.tables.log.get(first as u32) else {
-            return Err(NotebookFault::NoPosition);
-        };
+        let logged = self.record_at(first)?;
         let known = self.stamp(second, logged.event.thread)?;
         Ok(logged.time as u32 <= known)
     }
@@ -75,9 +88,6 @@ impl<'a> Notebook<'a> {
         ensures value { result ≡ pair_answer (book self.old) index }
         ensures listed { InEveryRun self.old (TellsPair (length (book self.old).tables.pairs.table) index result self.old.counts) }
     {
-        match self.tables.pairs.get(index) {
-            Some(pair) => Ok(pair),
-            None => Err(NotebookFault::NotHeld),
-        }
+        self.tables.pairs.get(index).ok_or(NotebookFault::NotHeld)
     }
 }

@@ -1,6 +1,7 @@
-use Rattle.std.proofs.Common.{◌≡◌, ℕ, ◌+◌, ◌*◌, List, [], ◌∷◌, ◌++◌, length, get_or, sym, ap, ◌∙◌, subst, ap₂, arith}
+use Rattle.std.proofs.Common.{◌≡◌, ℕ, ◌+◌, ◌*◌, ◌<◌, List, [], ◌∷◌, ◌++◌, length, get_or, sym, ap, ◌∙◌, subst, ap₂, arith}
 use Rattle.std.proofs.lemmas.List.Edits.{length-paste}
-use Rattle.keep_list.specs.Kept.{Kept, kept, added}
+use Rattle.keep_list.specs.Kept.{Kept, added}
+use Rattle.clock_bank.specs.Rows.{Rows, Shaped}
 use Rattle.events.specs.declared.event.Event.{Event}
 use Rattle.orders.specs.Traces.{local}
 use Rattle.notebook.specs.declared.log.LoggedEvent.{LoggedEvent}
@@ -9,9 +10,10 @@ use Rattle.notebook.specs.Notes.{noted}
 use Rattle.notebook.specs.Parts.{Timed, stamped}
 use Rattle.notebook.specs.Tables.{written}
 use Rattle.notebook.specs.View.{book}
+use Rattle.keep_list.proofs.Records.{added_more}
 use Rattle.notebook.proofs.Logs.{length_events}
-use Rattle.notebook.proofs.Sound.{sound, sound_at}
-use Rattle.notebook.proofs.Entering.{room_of, added_more, more_sound, new_time, lock_below, count_most}
+use Rattle.notebook.proofs.Sound.{sound_at}
+use Rattle.notebook.proofs.Entering.{room_of, more_sound, new_time, lock_below, count_most}
 use Rattle.notebook.proofs.notebook.Notebook.enter.Goals as goal
 
 -- the stamp, the pairs and the record in the log make the notebook that is noted
@@ -29,19 +31,22 @@ entered b e row old new w k n time old-is w-is k-is n-is time-is New-is =
     }) (w-is ∙ (ap (λ (x : Kept LoggedEvent). stamped (record { log = x; stamps = b.tables.stamps; pairs = b.tables.pairs }) e row k n) old-is
     ∙ ap₂ (stamped b.tables e row) k-is n-is)) time-is
 
+-- a thread's row has a number for each thread
+long_row : {rows : Rows} {stamp : List ℕ} {k t : ℕ} → Shaped rows → length rows.threads ≡ k → t < k → stamp ≡ get_or rows.threads t [] → length stamp ≡ k
+long_row shaped is below same = ap length same ∙ (shaped.thread_rows _ (omega (arith, is)) ∙ is)
+
 pub stamp-requires : goal.stamp-requires
 stamp-requires g c =
     let n = c.args.self.now in
     let room = room_of n c.args.event c.requires.admitted in
     let total = c.total-position.ensures.value in
-    let k : ℕ = length (g.B.Bank.rows c.args.bank.now).threads in
-    let same : k ≡ n.counts.threads = c.requires.bank_len in
-    let timed : Timed (kept n.tables.log) k c.total-position.result =
-    record { within = omega (arith, total); whole = n.whole; inside = λ i h. omega (arith, n.inside i h); timed = n.timed } in
+    let stamp : List ℕ = c.write_row.new.row in
+    let long : length stamp ≡ n.counts.threads = long_row (g.met.B.Bank.shaped c.args.bank.now) c.requires.bank_len room.thread c.write_row.ensures in
+    let timed : Timed n.tables.log (length stamp) c.total-position.result =
+    record { within = omega (arith, total); whole = n.sound.whole; inside = λ i h. omega (arith, long, n.sound.inside i h); timed = n.sound.timed } in
     record {
-      timed = subst (λ (log : Kept LoggedEvent). Timed log k c.total-position.result) (sym c.total-position.ensures.same) timed;
-      thread_in_bounds = omega (arith, same, room.thread);
-      bank_in_bounds = omega (arith, room.stamps, ap₂ ◌*◌ total same, same);
+      timed = subst (λ (log : Kept LoggedEvent). Timed log (length stamp) c.total-position.result) (sym c.total-position.ensures.same) timed;
+      in_bounds = omega (arith, room.stamps, ap₂ ◌*◌ total long, long);
     }
 
 pub overflow_add-time : goal.overflow_add-time
@@ -51,45 +56,33 @@ overflow_add-time g c =
     let room = room_of n e c.requires.admitted in
     omega (
       arith,
-      n.counted e.thread (omega (arith, room.thread, n.few)),
-      count_most (events (book n)) e.thread (kept n.tables.log).total,
+      n.sound.counted e.thread (omega (arith, room.thread, n.sound.few)),
+      count_most (events (book n)) e.thread n.tables.log.total,
       room.short,
     )
 
 pub change_lock-requires : goal.change_lock-requires
-change_lock-requires g c = lock_below c.args.self.now.counts c.args.event.operation c.args.self.now.some c.requires.admitted.object
+change_lock-requires g c = lock_below c.args.self.now.counts c.args.event.operation c.args.self.now.sound.some c.requires.admitted.object
 
 pub invariant_of-self : goal.invariant_of-self
 invariant_of-self g c =
     let n = c.args.self.now in
     let e = c.args.event in
-    let log = kept n.tables.log in
-    let cells : List ℕ = n.tables.stamps.cells.now in
+    let log = n.tables.log in
+    let cells : List ℕ = n.tables.stamps.now in
     let room = room_of n e c.requires.admitted in
     let x : LoggedEvent = record { event = e; time = get_or n.seen e.thread 0 + 1 } in
-    let k : ℕ = length (g.B.Bank.rows c.args.bank.now).threads in
-    let row : List ℕ = get_or (g.B.Bank.rows c.args.bank.now).threads e.thread [] in
+    let stamp : List ℕ = c.write_row.new.row in
+    let long : length stamp ≡ n.counts.threads =
+    long_row (g.met.B.Bank.shaped c.args.bank.now) c.requires.bank_len room.thread c.write_row.ensures in
     let same = ap (λ (w : Written). w.log) c.stamp.ensures ∙ c.total-position.ensures.same in
-    let s = sound_at c.change_lock.ensures
-    (c.add.ensures ∙ (ap (λ (k : Kept LoggedEvent). added k x) same ∙ added_more log x (omega (arith, room.short))))
-    (ap (λ (w : Written). length w.stamps) c.stamp.ensures
-    ∙ length-paste cells (c.total-position.result * k) row k
-    (omega (arith, room.stamps, ap₂ ◌*◌ c.total-position.ensures.value c.requires.bank_len, c.requires.bank_len))
-    (omega (arith, (g.B.Bank.shaped c.args.bank.now).thread_rows e.thread (omega (arith, c.requires.bank_len, room.thread)))))
-    (more_sound n.counts n.locks n.seen log (length cells) e (sound n) room.thread c.requires.admitted.lock room.log room.stamps room.short) in
     record {
-      few = s.few;
-      some = s.some;
-      many = s.many;
-      every = s.every;
-      each = s.each;
-      whole = s.whole;
-      short = s.short;
-      stamped = s.stamped;
-      inside = s.inside;
-      timed = s.timed;
-      counted = s.counted;
-      held = s.held;
+      sound = sound_at c.change_lock.ensures
+          (c.add.ensures ∙ (ap (λ (k : Kept LoggedEvent). added k x) same ∙ added_more log x (omega (arith, room.short))))
+          (ap (λ (w : Written). length w.stamps) c.stamp.ensures
+          ∙ length-paste cells (c.total-position.result * length stamp) stamp (length stamp)
+          (omega (arith, room.stamps, ap₂ ◌*◌ c.total-position.ensures.value long, long)) (omega arith))
+          (more_sound n.counts n.locks n.seen log (length cells) e n.sound room.thread c.requires.admitted.lock room.log room.stamps room.short);
     }
 
 pub returns : goal.returns
@@ -97,15 +90,18 @@ returns g c =
     let n = c.args.self.now in
     let e = c.args.event in
     let b = book n in
-    let log = kept n.tables.log in
-    let cells : List ℕ = n.tables.stamps.cells.now in
-    let row : List ℕ = get_or (g.B.Bank.rows c.args.bank.now).threads e.thread [] in
+    let log = n.tables.log in
+    let cells : List ℕ = n.tables.stamps.now in
+    let stamp : List ℕ = c.write_row.new.row in
     let room = room_of n e c.requires.admitted in
-    let at : c.total-position.result ≡ length (events b) = c.total-position.ensures.value ∙ sym (length_events log n.whole) in
-    let time = new_time n.counts n.locks n.seen log (length cells) e (sound n) room.thread c.requires.admitted.lock room.log room.stamps room.short in
+    let long : length stamp ≡ n.counts.threads =
+    long_row (g.met.B.Bank.shaped c.args.bank.now) c.requires.bank_len room.thread c.write_row.ensures in
+    let at : c.total-position.result ≡ length (events b) = c.total-position.ensures.value ∙ sym (length_events log n.sound.whole) in
+    let time = new_time n.counts n.locks n.seen log (length cells) e n.sound room.thread c.requires.admitted.lock room.log room.stamps room.short in
     record {
       position = at;
-      after = entered b e row (kept c.total-position.new.self) (kept c.add.new.self) (written c.stamp.new.self)
-          (length (g.B.Bank.rows c.args.bank.now).threads) c.total-position.result (get_or n.seen e.thread 0 + 1)
-          c.total-position.ensures.same c.stamp.ensures c.requires.bank_len at time c.add.ensures;
+      after = entered b e stamp c.total-position.new.self c.add.new.self (written c.stamp.new.self)
+          (length stamp) c.total-position.result (get_or n.seen e.thread 0 + 1)
+          c.total-position.ensures.same c.stamp.ensures long at time c.add.ensures
+          ∙ ap (noted b e) c.write_row.ensures;
     }

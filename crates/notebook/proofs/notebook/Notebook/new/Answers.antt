@@ -5,18 +5,4 @@ use Rattle.notebook.proofs.notebook.Notebook.new.Goals as goal
 pub invariant_of-result : goal.invariant_of-result
 invariant_of-result c =
     let limits : Limits c.admitted.result = subst Limits (sym c.admitted.ensures) (limited c.args.counts) in
-    let s = sound_as c.new.ensures (opened_sound c.admitted.result c.args.log.now (length c.args.stamps.now) limits) in
-    record {
-      few = s.few;
-      some = s.some;
-      many = s.many;
-      every = s.every;
-      each = s.each;
-      whole = s.whole;
-      short = s.short;
-      stamped = s.stamped;
-      inside = s.inside;
-      timed = s.timed;
-      counted = s.counted;
-      held = s.held;
-    }
+    record { sound = sound_as c.new.ensures (opened_sound c.admitted.result c.args.log.now (length c.args.stamps.now) limits) }
