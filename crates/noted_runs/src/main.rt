@@ -2,48 +2,33 @@
 // each line names; asks the notebook every question; and prints what it answers, and whether that is as expected.
 #![tactic(auto)]
 
-mod replay;
 mod script;
+mod session;
 
-use anyhow::anyhow;
+use anyhow::bail;
 use clock_bank::bank::Bank;
+use clock_bank::counts::{BankCounts, MOST_SLOTS, MOST_THREADS};
+use clock_bank::fault::BankFault;
 use events::event::{Event, Operation};
 use events::happens_before::HappensBefore;
 use events::rule::Rule;
 use events::schedulable::Schedulable;
 use flat_bank::FlatBank;
 use notebook::Notebook;
+use notebook::fault::NotebookFault;
 use notebook::log::LoggedEvent;
 use orders::counts::Counts;
 use orders::pair::PositionPair;
-use replay::{Outcome, before_text, note_all, pair_text, refusal_text, tells, time_text};
-use script::{Expected, Line, Run, Step, event_text, parse, word};
-use std::alloc::{AllocError, Global};
+use run_script::order::Order;
+use run_script::tally::Tally;
+use run_script::words::next_word;
+use script::{Expected, Line, Refusals, Run, Step, parse};
+use session::{Refusal, Session};
 use std::str::SplitWhitespace;
 
-// What was printed, and how much of it was compared with an expectation.
-#[derive(Drop)]
-struct Tally {
-    orders: u32,
-    events: u32,
-    compared: u32,
-    differ: u32,
-}
-
-impl Tally {
-    // Counts a comparison that is not printed beside its result.
-    fn check(&mut self, holds: bool) {
-        self.compared = self.compared.saturating_add(1);
-        if !holds {
-            self.differ = self.differ.saturating_add(1);
-        }
-    }
-}
-
-const NO_COUNTS: Counts = Counts {
-    threads: 0,
-    locks: 0,
-    variables: 0,
+const LARGEST_BANK: BankCounts = BankCounts {
+    threads: MOST_THREADS,
+    slots: MOST_SLOTS,
 };
 
 // What the tables hold before anything is noted.
@@ -60,224 +45,165 @@ const NO_PAIR: PositionPair = PositionPair {
     later: 0,
 };
 
-// The words after a result, where something is expected of it.
-fn verdict(tally: &mut Tally, found: &str, expected: &str) -> &'static str {
-    if expected == "?" {
-        return "";
-    }
-    tally.compared = tally.compared.saturating_add(1);
-    if found == expected {
-        return " as expected";
-    }
-    tally.differ = tally.differ.saturating_add(1);
-    " DIFFERS"
+// Prints what comes of runs, and counts how much of it is as expected.
+#[derive(Drop)]
+struct Report<'a> {
+    rt: &'a HostRuntime,
+    tally: Tally,
+    // what is expected of questions past the end
+    past: String,
 }
 
-// Prints a step and what came of it; `times` has what is expected of the events that are accepted.
-fn show_step(
-    rt: &HostRuntime,
-    tally: &mut Tally,
-    notebook: &mut Notebook,
-    threads: u16,
-    step: Step,
-    outcome: Outcome,
-    times: &mut SplitWhitespace<'_>,
-) -> anyhow::Result<()> {
-    let heap = rt.alloc();
-    match (step, outcome) {
-        (Step::Note(event, None), Outcome::Noted(position)) => {
-            let did = event_text(heap, event)?;
-            let time = time_text(heap, notebook, position, threads)?;
-            let words = verdict(tally, time.as_str(), word(times.next())?);
-            println!(rt; "  {did}: {time}{words}")?;
-            tally.check(tells(notebook, position, event));
-        }
-        (Step::Note(event, Some(number)), Outcome::Refused(found)) => {
-            let did = event_text(heap, event)?;
-            println!(rt; "  {did}: refused {found}")?;
-            tally.check(found == number);
-        }
-        (Step::Note(event, _), _) => {
-            let did = event_text(heap, event)?;
-            println!(rt; "  {did}: accepted or refused, and it should not be")?;
-            tally.check(false);
-        }
-        (Step::Again(count), Outcome::Noted(position)) => println!(rt;
-            "  the same {count} times more, the last at position {position}"
-        )?,
-        (Step::Again(_), Outcome::Refused(number)) => {
-            println!(rt; "  the same again: refused {number}")?;
-            tally.check(false);
-        }
-    }
-    Ok(())
-}
-
-// Asks of the position behind the last and of the pair behind the last.
-fn past_text(heap: Global, notebook: &mut Notebook) -> Result<String, AllocError> {
-    let end = notebook.event_count();
-    let event = refusal_text(heap, notebook.event(end))?;
-    let stamp = refusal_text(heap, notebook.stamp(end, 0))?;
-    let before = refusal_text(heap, notebook.before(end, end))?;
-    let pairs = notebook.pair_total();
-    let pair = refusal_text(heap, notebook.pair(pairs))?;
-    format!(in heap; "event {event} stamp {stamp} before {before} pair {pair}")
-}
-
-// Notes a run, prints what came of it, and asks the questions.
-fn show_run<B: Bank, R: Rule>(
-    rt: &HostRuntime,
-    tally: &mut Tally,
-    bank: &mut B,
-    notebook: &mut Notebook,
-    rule: &R,
-    run: &Run,
-    expected: Expected,
-    past: &str,
-) -> anyhow::Result<()> {
-    let heap = rt.alloc();
-    let outcomes = note_all(heap, bank, notebook, rule, run)?;
-    let mut times = expected.times.split_whitespace();
-    for (step, outcome) in run.steps.iter().zip(outcomes.iter()) {
-        let threads = run.counts.threads;
-        show_step(rt, tally, notebook, threads, *step, *outcome, &mut times)?;
-    }
-    if times.next().is_some() {
-        return Err(anyhow!("more times are expected than there are events"));
-    }
-    let pairs = pair_text(heap, notebook, 64)?;
-    let words = verdict(tally, pairs.as_str(), expected.pairs);
-    println!(rt; "  pairs {pairs}{words}")?;
-    let events = notebook.event_count();
-    let before = before_text(heap, notebook, events.min(16))?;
-    let words = verdict(tally, before.as_str(), expected.before);
-    println!(rt; "  before {before}{words}")?;
-    let found = past_text(heap, notebook)?;
-    let words = verdict(tally, found.as_str(), past);
-    println!(rt; "  events {events}, past the end: {found}{words}")?;
-    tally.events = tally.events.saturating_add(events as u32);
-    Ok(())
-}
-
-fn show_order(
-    rt: &HostRuntime,
-    tally: &mut Tally,
-    run: &Run,
-    order: u16,
-    expected: Expected,
-    past: &str,
-) -> anyhow::Result<()> {
-    let heap = rt.alloc();
-    let name = run.name.as_str();
-    println!(rt; "run {name} order {order}")?;
-    tally.orders = tally.orders.saturating_add(1);
-    let slots = run.counts.locks as u32 + run.counts.variables as u32;
-    let places = (run.counts.threads as usize + slots as usize) * run.counts.threads as usize;
-    let mut rows = vec![in heap; 0u32; places]?;
-    let mut bank = FlatBank::new(run.counts.threads, slots, rows.as_mut_slice());
-    let mut log = vec![in heap; NO_EVENT; run.room.log]?;
-    let mut stamps = vec![in heap; 0u32; run.room.stamps]?;
-    let mut pairs = vec![in heap; NO_PAIR; run.room.pairs]?;
-    let mut notebook = Notebook::new(
-        run.counts,
-        order,
-        log.as_mut_slice(),
-        stamps.as_mut_slice(),
-        pairs.as_mut_slice(),
-    );
-    match order {
-        1 => show_run(
-            rt,
-            tally,
-            &mut bank,
-            &mut notebook,
-            &HappensBefore,
-            run,
-            expected,
-            past,
-        ),
-        2 => show_run(
-            rt,
-            tally,
-            &mut bank,
-            &mut notebook,
-            &Schedulable,
-            run,
-            expected,
-            past,
-        ),
-        _ => Err(anyhow!("no such order")),
-    }
-}
-
-// Whether a bank and a notebook can have these counts.
-fn show_check(
-    rt: &HostRuntime,
-    tally: &mut Tally,
-    counts: Counts,
-    bank: &str,
-    notebook: &str,
-) -> anyhow::Result<()> {
-    let heap = rt.alloc();
-    let rows = vec![in heap; 0u32; 41984]?;
-    let slots = counts.locks as u32 + counts.variables as u32;
-    let by_bank = match FlatBank::check(counts.threads, slots, rows.as_slice()) {
-        Ok(()) => String::from_str(heap, "none")?,
-        Err(fault) => fault.number().to_string(heap)?,
-    };
-    let by_notebook = refusal_text(heap, Notebook::check(counts))?;
-    let words = verdict(tally, by_bank.as_str(), bank);
-    let also = verdict(tally, by_notebook.as_str(), notebook);
-    let threads = counts.threads;
-    let locks = counts.locks;
-    let variables = counts.variables;
-    println!(rt;
-        "threads {threads} locks {locks} variables {variables}: bank {by_bank}{words}, notebook {by_notebook}{also}"
-    )?;
-    Ok(())
-}
-
-fn run_all(rt: &HostRuntime) -> anyhow::Result<()> {
-    let heap = rt.alloc();
-    let mut tally = Tally {
-        orders: 0,
-        events: 0,
-        compared: 0,
-        differ: 0,
-    };
-    let mut past = String::from_str(heap, "?")?;
-    let mut run = Run::new(heap, "", NO_COUNTS)?;
-    for line in rt.lines(heap) {
-        let line = line?;
-        match parse(line.as_str())? {
-            Line::Nothing => {}
-            Line::Check(counts, bank, notebook) => show_check(
-                rt, &mut tally, counts, bank, notebook,
+impl<'a> Report<'a> {
+    // Prints a step and what came of it; `times` has what is expected of the events that are accepted.
+    fn show_step<B: Bank, R: Rule>(
+        &mut self,
+        session: &mut Session<'_, B, R>,
+        step: Step,
+        outcome: Option<Result<u16, NotebookFault>>,
+        times: &mut SplitWhitespace<'_>,
+    ) -> anyhow::Result<()> {
+        match (step, outcome) {
+            (Step::Note(event, None), Some(Ok(position))) => {
+                let time = session.time_text(position)?;
+                let verdict = self.tally.compare(&time, next_word(times)?);
+                println!(self.rt; "  {event}: {time}{verdict}")?;
+                self.tally.check(session.tells(position, event));
+            }
+            (Step::Note(event, Some(number)), Some(Err(fault))) => {
+                let found = fault.number();
+                println!(self.rt; "  {event}: refused {found}")?;
+                self.tally.check(found == number);
+            }
+            (Step::Note(event, _), _) => {
+                println!(self.rt; "  {event}: accepted or refused, and it should not be")?;
+                self.tally.check(false);
+            }
+            (Step::Again(count), Some(Ok(position))) => println!(self.rt;
+                "  the same {count} times more, the last at position {position}"
             )?,
-            Line::Past(numbers) => past = String::from_str(heap, numbers)?,
-            Line::Run(name, counts) => run = Run::new(heap, name, counts)?,
-            Line::Room(room) => run.room = room,
-            Line::Step(step) => run.steps.push(step)?,
-            Line::Order(order, expected) => show_order(
-                rt,
-                &mut tally,
-                &run,
-                order,
-                expected,
-                past.as_str(),
-            )?,
+            (Step::Again(_), outcome) => {
+                // 0 where there was nothing to note
+                let number = outcome
+                    .and_then(|noted| noted.err())
+                    .map_or(0, NotebookFault::number);
+                println!(self.rt; "  the same again: refused {number}")?;
+                self.tally.check(false);
+            }
+        }
+        Ok(())
+    }
+
+    // Notes a run, and prints what came of it.
+    fn show_steps<B: Bank, R: Rule>(
+        &mut self,
+        session: &mut Session<'_, B, R>,
+        run: &Run,
+        times: &str,
+    ) -> anyhow::Result<()> {
+        let mut times = times.split_whitespace();
+        for (at, step) in run.steps.iter().enumerate() {
+            let outcome = session.act(run, at, *step);
+            self.show_step(session, *step, outcome, &mut times)?;
+        }
+        if times.next().is_some() {
+            bail!("more times are expected than there are events");
+        }
+        Ok(())
+    }
+
+    // Asks the questions, and prints the answers.
+    fn show_answers<B: Bank, R: Rule>(
+        &mut self,
+        session: &mut Session<'_, B, R>,
+        expected: Expected,
+    ) -> anyhow::Result<()> {
+        let pairs = session.pair_text(64)?;
+        let verdict = self.tally.compare(&pairs, expected.pairs);
+        println!(self.rt; "  pairs {pairs}{verdict}")?;
+        let events = session.notebook.event_count();
+        let before = session.before_text(events.min(16))?;
+        let verdict = self.tally.compare(&before, expected.before);
+        println!(self.rt; "  before {before}{verdict}")?;
+        let found = session.past_text()?;
+        let verdict = self.tally.compare(&found, &self.past);
+        println!(self.rt; "  events {events}, past the end: {found}{verdict}")?;
+        self.tally.add_order(u32::from(events));
+        Ok(())
+    }
+
+    fn show_run<R: Rule + Drop>(
+        &mut self,
+        rule: R,
+        run: &Run,
+        expected: Expected,
+    ) -> anyhow::Result<()> {
+        let heap = self.rt.alloc();
+        let counts = BankCounts::from(run.counts);
+        let mut rows = vec![in heap; 0u32; FlatBank::places(counts)]?;
+        let mut log = vec![in heap; NO_EVENT; run.room.log]?;
+        let mut stamps = vec![in heap; 0u32; run.room.stamps]?;
+        let mut pairs = vec![in heap; NO_PAIR; run.room.pairs]?;
+        let mut session = Session {
+            heap,
+            bank: FlatBank::new(counts, &mut rows),
+            notebook: Notebook::new(run.counts, R::NUMBER, &mut log, &mut stamps, &mut pairs),
+            rule,
+        };
+        self.show_steps(&mut session, run, expected.times)?;
+        self.show_answers(&mut session, expected)
+    }
+
+    fn show_order(&mut self, run: &Run, order: Order, expected: Expected) -> anyhow::Result<()> {
+        println!(self.rt; "run {} order {order}", run.name)?;
+        match order {
+            Order::HappensBefore => self.show_run(HappensBefore, run, expected),
+            Order::Schedulable => self.show_run(Schedulable, run, expected),
         }
     }
-    let Tally {
-        orders,
-        events,
-        compared,
-        differ,
-    } = tally;
-    println!(rt; "{orders} runs of {events} events, {compared} results compared, {differ} differ")?;
-    Ok(())
+
+    // Whether a bank and a notebook can have these counts.
+    fn show_check(&mut self, counts: Counts, expected: Refusals) -> anyhow::Result<()> {
+        let heap = self.rt.alloc();
+        let rows = vec![in heap; 0u32; FlatBank::places(LARGEST_BANK)]?;
+        let bank = FlatBank::check(BankCounts::from(counts), &rows);
+        let bank = Refusal(bank.err().map(BankFault::number)).to_string(heap)?;
+        let notebook = Refusal::of(Notebook::check(counts)).to_string(heap)?;
+        let by_bank = self.tally.compare(&bank, expected.bank);
+        let by_notebook = self.tally.compare(&notebook, expected.notebook);
+        print!(self.rt;
+            "threads {} locks {} variables {}: ",
+            counts.threads, counts.locks, counts.variables
+        )?;
+        println!(self.rt; "bank {bank}{by_bank}, notebook {notebook}{by_notebook}")?;
+        Ok(())
+    }
+
+    fn run_all(&mut self) -> anyhow::Result<()> {
+        let heap = self.rt.alloc();
+        let mut run = Run::new(heap, "", Counts::default())?;
+        for line in self.rt.lines(heap) {
+            let line = line?;
+            match parse(&line)? {
+                Line::Nothing => {}
+                Line::Check(counts, expected) => self.show_check(counts, expected)?,
+                Line::Past(numbers) => self.past = String::from_str(heap, numbers)?,
+                Line::Run(name, counts) => run = Run::new(heap, name, counts)?,
+                Line::Room(room) => run.room = room,
+                Line::Step(step) => run.steps.push(step)?,
+                Line::Order(order, expected) => self.show_order(&run, order, expected)?,
+            }
+        }
+        println!(self.rt; "{}", self.tally)?;
+        Ok(())
+    }
 }
 
 fn main(rt: HostRuntime) -> anyhow::Result<()> {
-    run_all(&rt)
+    let mut report = Report {
+        rt: &rt,
+        tally: Tally::default(),
+        past: String::from_str(rt.alloc(), "?")?,
+    };
+    report.run_all()
 }

@@ -6,7 +6,7 @@ fn overflow(rt: HostRuntime) {
     let mut table = [7u8, 8];
     let mut list = KeepList::new(&mut table);
     assert_eq!(rt; list.get(0), None);
-    for record in 1..4u8 {
+    for record in [1, 2, 3] {
         list.add(record);
     }
     assert_eq!(rt; list.total(), 3);

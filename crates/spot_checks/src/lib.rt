@@ -7,3 +7,5 @@ mod banks;
 mod conflicts;
 #[cfg(test)]
 mod keep;
+#[cfg(test)]
+mod script;

@@ -1,0 +1,5 @@
+pub mod Faults
+pub mod Orders
+pub mod Tallies
+pub mod Words
+pub mod Lists
