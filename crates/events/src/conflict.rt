@@ -56,7 +56,7 @@ impl Operation {
         }
     }
 
-    // The number of its variable or lock.
+    // The number of its variable or lock. A method and no `From`: it is one of the two numbers of an event.
     pub fn object(self) -> u16
         ensures { result ≡ object_of self }
     {
@@ -92,6 +92,6 @@ impl Event {
         let clash = self.operation.kind().clashes(other.operation.kind());
         let touch = self.operation.object() == other.operation.object();
         let apart = self.thread != other.thread;
-        apart & touch & clash
+        apart && touch && clash
     }
 }

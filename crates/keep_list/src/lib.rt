@@ -58,6 +58,7 @@ impl<'a, T: Copy> KeepList<'a, T> {
         ensures same { self.new ≡ self.old }
         ensures value { result ≡ length (records self.old) }
     {
+        // at most the total, so that 32 bits hold it
         self.table.len().min(self.total as usize) as u32
     }
 

@@ -1,4 +1,4 @@
-// Which events a notebook admits. Numbers are widened by `as`, which the check proves to lose nothing.
+// Which events a notebook admits. Numbers are cast by `as`, which the check proves to lose nothing.
 ghost use Rattle.std.specs.Prelude.{◌≡◌, true, None};
 ghost use Rattle.clock_bank.specs.Faults.{or_fault, require};
 ghost use Rattle.events.specs.Events.{object_of};
@@ -36,7 +36,7 @@ impl<'a> Notebook<'a> {
         }
     }
 
-    // Whether an event is admitted at its lock.
+    // Whether an event is admitted at its lock, which its operation names.
     fn check_lock(&self, event: Event) -> Result<(), NotebookFault>
         requires { is_object_of self.now.counts event.operation ≡ true }
         ensures { result ≡ or_fault (lock_fault (held_by (events (book self.now)) (object_of event.operation)) event.thread event.operation) tt }

@@ -42,7 +42,8 @@ impl<'a> Notebook<'a> {
         }
     }
 
-    // A notebook for the rule of this number, with nothing noted and every lock free; where the check fails, all its counts are 0.
+    // A notebook for the rule of this number, with nothing noted and every lock free; where the check fails, all its
+    // counts are 0.
     pub fn new(
         counts: Counts,
         number: u16,

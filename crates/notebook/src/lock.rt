@@ -6,6 +6,7 @@ ghost use Rattle.notebook.specs.Locks.{lock_fault, lock_after};
 use crate::fault::NotebookFault;
 use events::event::{Event, Operation};
 
+// A type of its own, for what an event finds and does at a lock.
 #[derive(Clone, Copy, PartialEq, Eq, Debug)]
 pub struct Lock {
     pub holder: Option<u16>,

@@ -1,4 +1,4 @@
-// The log's records. Numbers are widened by `as`, which the check proves to lose nothing.
+// The log's records. Numbers are cast by `as`, which the check proves to lose nothing.
 ghost use Rattle.std.specs.Prelude.{◌≡◌, ◌&&◌, nat_lt};
 ghost use Rattle.events.specs.Conflicts.{conflicts};
 

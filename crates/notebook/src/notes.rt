@@ -1,4 +1,4 @@
-// Note: an event more, with its stamp and its pairs. Numbers are widened by `as`, which the check proves to lose
+// Note: an event more, with its stamp and its pairs. Numbers are cast by `as`, which the check proves to lose
 // nothing. An event, its stamp and its position are passed side by side: of a struct that held the lent stamp each clause
 // would have to say whether it means the value at entry or at exit. `Timed` is asked by those that read the log, which is
 // not theirs: it follows from the notebook's invariant.
@@ -86,7 +86,7 @@ impl<'a> Tables<'a> {
     }
 }
 
-// What an event does to its lock.
+// What an event does to its lock, which its operation names.
 fn change_lock(locks: &mut [Lock; 256], event: Event)
     requires { LockBelow 256 event.operation }
     ensures { locks.new ≡ locks_after locks.old event.thread event.operation }
@@ -118,7 +118,7 @@ impl<'a> Notebook<'a> {
     }
 }
 
-// Moves a bank by an event, as the rule says with so many locks.
+// Moves a bank by an event, as the rule says with so many locks. The rule is passed for its type.
 fn follow<B: Bank, R: Rule>(
     bank: &mut B,
     _rule: &R,

@@ -1,5 +1,5 @@
 // The questions of a notebook. They take it for writing, as its keep-lists do, and promise no change. Numbers are
-// widened by `as`, which the check proves to lose nothing.
+// cast by `as`, which the check proves to lose nothing.
 ghost use Rattle.std.specs.Prelude.{◌≡◌, length};
 ghost use Rattle.notebook.specs.Books.{events};
 ghost use Rattle.notebook.specs.Runs.{InEveryRun};

@@ -1,4 +1,4 @@
-// The tables that a notebook is lent. Numbers are widened by `as`, which the check proves to lose nothing.
+// The tables that a notebook is lent. Numbers are cast by `as`, which the check proves to lose nothing.
 ghost use Rattle.std.specs.Prelude.{◌≡◌, ◌+◌, ◌*◌, ◌&&◌, length, nat_le, nat_lt};
 ghost use Rattle.notebook.specs.Tables.{written};
 

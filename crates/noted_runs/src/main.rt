@@ -45,7 +45,8 @@ const NO_PAIR: PositionPair = PositionPair {
     later: 0,
 };
 
-// Prints what comes of runs, and counts how much of it is as expected.
+// Prints what comes of runs, in this program's format, and counts how much of it is as expected. What is shown of an
+// order is what its line brings, read into three values.
 #[derive(Drop)]
 struct Report<'a> {
     rt: &'a HostRuntime,

@@ -15,6 +15,7 @@ pub struct Room {
     pub pairs: usize,
 }
 
+// The two things that a script can have done.
 #[derive(Clone, Copy)]
 pub enum Step {
     // note an event; it is refused by this number, or accepted

@@ -12,5 +12,5 @@ abbrev pub numbers_text : List ℕ → List ℕ
 numbers_text [] = []
 numbers_text (n ∷ ns) = decimal n ++ flat_map (λ m. codes "," ++ decimal m) ns
 
-abbrev pub time_text : List ℕ → List ℕ
-time_text time = codes "(" ++ (numbers_text time ++ codes ")")
+abbrev pub time_written : List ℕ → List ℕ
+time_written time = codes "(" ++ (numbers_text time ++ codes ")")

@@ -1,6 +1,6 @@
-// Lists as a script has them.
+// Lists as a script has them, made as texts to be compared with its own.
 ghost use Rattle.std.specs.Prelude.{◌≡◌, IfOk, string_bytes, map};
-ghost use Rattle.run_script.specs.Lists.{list_text, time_text};
+ghost use Rattle.run_script.specs.Lists.{list_text, time_written};
 
 use itertools::Itertools;
 use std::alloc::{AllocError, Global};
@@ -17,7 +17,7 @@ pub fn listed(heap: Global, pieces: &[String]) -> Result<String, AllocError>
 
 // A time, as `(1,0)`.
 pub fn time_text(heap: Global, time: &[u32]) -> Result<String, AllocError>
-    ensures { IfOk result (λ text. string_bytes text ≡ time_text time.now) }
+    ensures { IfOk result (λ text. string_bytes text ≡ time_written time.now) }
 {
     let entries = time.iter().join(heap, ",")?;
     format!(in heap; "({entries})")

@@ -14,7 +14,8 @@ use run_script::tally::Tally;
 use run_script::words::next_word;
 use script::{Expected, Line, Run, parse};
 
-// Prints what comes of runs, and counts how much of it is as expected.
+// Prints what comes of runs, in this program's format, and counts how much of it is as expected. What is shown of an
+// order is what its line brings, read into three values.
 #[derive(Drop)]
 struct Report<'a> {
     rt: &'a HostRuntime,

@@ -62,8 +62,8 @@ pub fn replay(heap: Global, run: &Run, order: Order) -> anyhow::Result<Vec<Timed
     }
 }
 
-// The pairs as text, as 0-1 0-2, or none: of each event with the earlier ones that conflict with it and whose local
-// time its own time does not reach.
+// The pairs as text to be compared, as 0-1 0-2, or none: of each event with the earlier ones that conflict with it and
+// whose local time its own time does not reach.
 pub fn pair_text(heap: Global, events: &[TimedEvent]) -> Result<String, AllocError> {
     let mut pairs = Vec::new(heap);
     for (later, this) in events.iter().enumerate() {
