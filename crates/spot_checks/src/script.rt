@@ -1,5 +1,6 @@
 // Texts as scripts have them, where there is memory for them.
 use clock_bank::fault::BankFault;
+use events::event::{Event, Operation};
 use notebook::fault::NotebookFault;
 use run_script::lists::{listed, time_text};
 use run_script::words::next_event;
@@ -50,6 +51,26 @@ fn bad_numbers(rt: HostRuntime) -> Result<(), Fail> {
             Err(fault) => fault.to_string(heap)?,
         };
         assert_eq!(rt; text.as_str(), reason);
+    }
+    Ok(())
+}
+
+// What an event prints is read back as that event, and nothing of it is left.
+#[test]
+fn events_read_back(rt: HostRuntime) -> Result<(), Fail> {
+    let heap = rt.alloc();
+    let operations = [
+        Operation::Read(0),
+        Operation::Write(10),
+        Operation::Acquire(255),
+        Operation::Release(65535),
+    ];
+    for (thread, operation) in [0, 9, 31, 65535].into_iter().zip(operations) {
+        let event = Event { thread, operation };
+        let text = event.to_string(heap)?;
+        let mut words = text.as_str().split_whitespace();
+        assert!(rt; next_event(&mut words) == Ok(event));
+        assert!(rt; words.next().is_none());
     }
     Ok(())
 }
