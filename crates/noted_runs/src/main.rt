@@ -9,40 +9,23 @@ use anyhow::bail;
 use clock_bank::bank::Bank;
 use clock_bank::counts::{BankCounts, MOST_SLOTS, MOST_THREADS};
 use clock_bank::fault::BankFault;
-use events::event::{Event, Operation};
 use events::happens_before::HappensBefore;
 use events::rule::Rule;
 use events::schedulable::Schedulable;
 use flat_bank::FlatBank;
 use notebook::Notebook;
 use notebook::fault::NotebookFault;
-use notebook::log::LoggedEvent;
 use orders::counts::Counts;
-use orders::pair::PositionPair;
 use run_script::order::Order;
 use run_script::tally::Tally;
 use run_script::words::next_word;
 use script::{Expected, Line, Refusals, Run, Step, parse};
-use session::{Refusal, Session};
+use session::{Memory, Refusal, Session};
 use std::str::SplitWhitespace;
 
 const LARGEST_BANK: BankCounts = BankCounts {
     threads: MOST_THREADS,
     slots: MOST_SLOTS,
-};
-
-// What the tables hold before anything is noted.
-const NO_EVENT: LoggedEvent = LoggedEvent {
-    event: Event {
-        thread: 0,
-        operation: Operation::Read(0),
-    },
-    time: 0,
-};
-
-const NO_PAIR: PositionPair = PositionPair {
-    earlier: 0,
-    later: 0,
 };
 
 // Prints what comes of runs, in this program's format, and counts how much of it is as expected. What is shown of an
@@ -137,29 +120,32 @@ impl<'a> Report<'a> {
         &mut self,
         rule: R,
         run: &Run,
+        memory: &mut Memory,
         expected: Expected,
     ) -> anyhow::Result<()> {
-        let heap = self.rt.alloc();
-        let counts = BankCounts::from(run.counts);
-        let mut rows = vec![in heap; 0u32; FlatBank::places(counts)]?;
-        let mut log = vec![in heap; NO_EVENT; run.room.log]?;
-        let mut stamps = vec![in heap; 0u32; run.room.stamps]?;
-        let mut pairs = vec![in heap; NO_PAIR; run.room.pairs]?;
+        let Memory {
+            rows,
+            log,
+            stamps,
+            pairs,
+        } = memory;
         let mut session = Session {
-            heap,
-            bank: FlatBank::new(counts, &mut rows),
-            notebook: Notebook::new(run.counts, R::NUMBER, &mut log, &mut stamps, &mut pairs),
+            heap: self.rt.alloc(),
+            bank: FlatBank::new(BankCounts::from(run.counts), rows),
+            notebook: Notebook::new(run.counts, R::NUMBER, log, stamps, pairs),
             rule,
         };
         self.show_steps(&mut session, run, expected.times)?;
         self.show_answers(&mut session, expected)
     }
 
-    fn show_order(&mut self, run: &Run, order: Order, expected: Expected) -> anyhow::Result<()> {
-        println!(self.rt; "run {} order {order}", run.name)?;
-        match order {
-            Order::HappensBefore => self.show_run(HappensBefore, run, expected),
-            Order::Schedulable => self.show_run(Schedulable, run, expected),
+    // The run and the order's number are printed, and the memory is there, before an order is looked for.
+    fn show_order(&mut self, run: &Run, number: u16, expected: Expected) -> anyhow::Result<()> {
+        println!(self.rt; "run {} order {number}", run.name)?;
+        let mut memory = Memory::new(self.rt.alloc(), run)?;
+        match Order::try_from(number)? {
+            Order::HappensBefore => self.show_run(HappensBefore, run, &mut memory, expected),
+            Order::Schedulable => self.show_run(Schedulable, run, &mut memory, expected),
         }
     }
 
@@ -172,11 +158,10 @@ impl<'a> Report<'a> {
         let notebook = Refusal::of(Notebook::check(counts)).to_string(heap)?;
         let by_bank = self.tally.compare(&bank, expected.bank);
         let by_notebook = self.tally.compare(&notebook, expected.notebook);
-        print!(self.rt;
-            "threads {} locks {} variables {}: ",
+        println!(self.rt;
+            "threads {} locks {} variables {}: bank {bank}{by_bank}, notebook {notebook}{by_notebook}",
             counts.threads, counts.locks, counts.variables
         )?;
-        println!(self.rt; "bank {bank}{by_bank}, notebook {notebook}{by_notebook}")?;
         Ok(())
     }
 
@@ -192,7 +177,7 @@ impl<'a> Report<'a> {
                 Line::Run(name, counts) => run = Run::new(heap, name, counts)?,
                 Line::Room(room) => run.room = room,
                 Line::Step(step) => run.steps.push(step)?,
-                Line::Order(order, expected) => self.show_order(&run, order, expected)?,
+                Line::Order(number, expected) => self.show_order(&run, number, expected)?,
             }
         }
         println!(self.rt; "{}", self.tally)?;

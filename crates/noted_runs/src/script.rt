@@ -3,7 +3,6 @@
 use anyhow::{Context, bail};
 use events::event::Event;
 use orders::counts::Counts;
-use run_script::order::Order;
 use run_script::words::{next_counts, next_event, next_labelled, next_word, order_line};
 use std::alloc::{AllocError, Global};
 
@@ -76,7 +75,8 @@ pub enum Line<'a> {
     Run(&'a str, Counts),
     Room(Room),
     Step(Step),
-    Order(Order, Expected<'a>),
+    // an order's number, and what is expected
+    Order(u16, Expected<'a>),
 }
 
 // `t0 write v0`, and ` refused 11` where it is refused
@@ -128,9 +128,8 @@ fn parse_order(rest: &str) -> anyhow::Result<Line> {
         .pairs
         .split_once(" / before ")
         .context("an order has what is before what")?;
-    let order = Order::try_from(line.number.parse::<u16>()?)?;
     Ok(Line::Order(
-        order,
+        line.number.parse::<u16>()?,
         Expected {
             times: line.times,
             pairs,

@@ -1,13 +1,17 @@
 // A run noted into a notebook, and what the notebook answers. A question takes the notebook for writing, so its answers
 // are texts that a method makes, and none is a `Display`.
 use crate::script::{Run, Step};
-use anyhow::Context;
+use anyhow::anyhow;
 use clock_bank::bank::Bank;
-use events::event::Event;
+use clock_bank::counts::BankCounts;
+use events::event::{Event, Operation};
 use events::rule::Rule;
+use flat_bank::FlatBank;
 use itertools::Itertools;
 use notebook::fault::NotebookFault;
+use notebook::log::LoggedEvent;
 use notebook::{Notebook, note};
+use orders::pair::PositionPair;
 use run_script::lists::{listed, time_text};
 use std::alloc::{AllocError, Global};
 use std::fmt;
@@ -29,6 +33,40 @@ impl Refusal {
     // What there is of it in a notebook's answer.
     pub fn of<T: Drop>(answer: Result<T, NotebookFault>) -> Refusal {
         Refusal(answer.err().map(NotebookFault::number))
+    }
+}
+
+// What the tables hold before anything is noted.
+const NO_EVENT: LoggedEvent = LoggedEvent {
+    event: Event {
+        thread: 0,
+        operation: Operation::Read(0),
+    },
+    time: 0,
+};
+
+const NO_PAIR: PositionPair = PositionPair {
+    earlier: 0,
+    later: 0,
+};
+
+// What a bank and a notebook are lent for a run.
+#[derive(Drop)]
+pub struct Memory {
+    pub rows: Vec<u32>,
+    pub log: Vec<LoggedEvent>,
+    pub stamps: Vec<u32>,
+    pub pairs: Vec<PositionPair>,
+}
+
+impl Memory {
+    pub fn new(heap: Global, run: &Run) -> Result<Memory, AllocError> {
+        Ok(Memory {
+            rows: vec![in heap; 0u32; FlatBank::places(BankCounts::from(run.counts))]?,
+            log: vec![in heap; NO_EVENT; run.room.log]?,
+            stamps: vec![in heap; 0u32; run.room.stamps]?,
+            pairs: vec![in heap; NO_PAIR; run.room.pairs]?,
+        })
     }
 }
 
@@ -77,7 +115,7 @@ impl<'a, B: Bank, R: Rule> Session<'a, B, R> {
             .map(|thread| self
                 .notebook
                 .stamp(position, thread)
-                .context("an event has no stamp"))
+                .map_err(|_| anyhow!("an event has no stamp")))
             .try_collect(self.heap)?;
         Ok(time_text(self.heap, &time)?)
     }

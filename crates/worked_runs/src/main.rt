@@ -9,7 +9,6 @@ use anyhow::bail;
 use orders::counts::Counts;
 use replay::{TimedEvent, pair_text, replay};
 use run_script::lists::time_text;
-use run_script::order::Order;
 use run_script::tally::Tally;
 use run_script::words::next_word;
 use script::{Expected, Line, Run, parse};
@@ -37,10 +36,10 @@ impl<'a> Report<'a> {
         Ok(())
     }
 
-    fn show_order(&mut self, run: &Run, order: Order, expected: Expected) -> anyhow::Result<()> {
+    fn show_order(&mut self, run: &Run, number: u16, expected: Expected) -> anyhow::Result<()> {
         let heap = self.rt.alloc();
-        let events = replay(heap, run, order)?;
-        println!(self.rt; "run {} order {order}", run.name)?;
+        let events = replay(heap, run, number)?;
+        println!(self.rt; "run {} order {number}", run.name)?;
         self.show_times(expected.times, &events)?;
         let pairs = pair_text(heap, &events)?;
         let verdict = self.tally.compare(&pairs, expected.pairs);
@@ -59,7 +58,7 @@ impl<'a> Report<'a> {
                 Line::Nothing => {}
                 Line::Run(name, counts) => run = Run::new(heap, name, counts)?,
                 Line::Event(event) => run.events.push(event)?,
-                Line::Order(order, expected) => self.show_order(&run, order, expected)?,
+                Line::Order(number, expected) => self.show_order(&run, number, expected)?,
             }
         }
         println!(self.rt; "{}", self.tally)?;

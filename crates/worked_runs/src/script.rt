@@ -4,7 +4,6 @@ use anyhow::bail;
 use events::event::Event;
 use orders::counts::Counts;
 use run_script::fault::ScriptError;
-use run_script::order::Order;
 use run_script::words::{next_counts, next_event, next_word, order_line};
 use std::alloc::{AllocError, Global};
 
@@ -40,7 +39,8 @@ pub enum Line<'a> {
     // a run's name and its counts
     Run(&'a str, Counts),
     Event(Event),
-    Order(Order, Expected<'a>),
+    // an order's number, and what is expected
+    Order(u16, Expected<'a>),
 }
 
 // `NAME threads K locks L variables X`
@@ -57,9 +57,8 @@ fn parse_run(rest: &str) -> anyhow::Result<Line> {
 // `R times .. / pairs ..`
 fn parse_order(rest: &str) -> anyhow::Result<Line> {
     let line = order_line(rest)?;
-    let order = Order::try_from(line.number.parse::<u16>()?)?;
     Ok(Line::Order(
-        order,
+        line.number.parse::<u16>()?,
         Expected {
             times: line.times,
             pairs: line.pairs,
