@@ -70,6 +70,9 @@ fn scan(
     }
 }
 
+// The longest stamp that is written in place where nothing is compared with it.
+const SHORT_STAMP: usize = 8;
+
 impl<'a> Tables<'a> {
     // Writes the stamp of the event at `position`, and adds its pairs. An acquire or a release conflicts with nothing,
     // so that nothing has to be passed.
@@ -82,6 +85,27 @@ impl<'a> Tables<'a> {
         self.stamps[start..start + stamp.len()].copy_from_slice(stamp);
         if event.operation.is_access() {
             scan(&mut self.log, &mut self.pairs, event, stamp, position);
+        }
+    }
+
+    // The same, where the stamp is the thread's row of the bank. It is read into an array, with which an access is
+    // compared, and from which a long one is copied fast; a short one that nothing is compared with does without.
+    fn stamp_from<B: Bank>(&mut self, bank: &B, event: Event, position: u16)
+        requires timed { Timed self.old.log (length (B.Bank.rows bank.now).threads) position }
+        requires thread_in_bounds { event.thread < length (B.Bank.rows bank.now).threads }
+        requires few { length (B.Bank.rows bank.now).threads ≤ 32 }
+        requires in_bounds { position * length (B.Bank.rows bank.now).threads + length (B.Bank.rows bank.now).threads ≤ length self.old.stamps.now }
+        ensures { written self.new ≡ stamped (written self.old) event (slice_index_or (B.Bank.rows bank.now).threads event.thread []) (length (B.Bank.rows bank.now).threads) position }
+    {
+        let width = bank.thread_count() as usize;
+        if !event.operation.is_access() && width <= SHORT_STAMP {
+            let start = position as usize * width;
+            write_row(&mut self.stamps[start..start + width], bank, event.thread);
+        } else {
+            let mut row = [0; 32];
+            let stamp = &mut row[..width];
+            write_row(stamp, bank, event.thread);
+            self.stamp(event, position, stamp);
         }
     }
 }
@@ -106,10 +130,7 @@ impl<'a> Notebook<'a> {
         ensures after { book self.new ≡ noted (book self.old) event (slice_index_or (B.Bank.rows bank.now).threads event.thread []) }
     {
         let position = self.tables.log.total() as u16;
-        let mut row = [0; 32];
-        let stamp = &mut row[..self.counts.threads as usize];
-        write_row(stamp, bank, event.thread);
-        self.tables.stamp(event, position, stamp);
+        self.tables.stamp_from(bank, event, position);
         let time = self.seen[event.thread as usize] + 1;
         self.seen[event.thread as usize] = time;
         self.tables.log.add(LoggedEvent { event, time });

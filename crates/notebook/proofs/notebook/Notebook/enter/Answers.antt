@@ -1,7 +1,6 @@
-use Rattle.std.proofs.Common.{◌≡◌, ℕ, ◌+◌, ◌*◌, ◌<◌, List, [], ◌∷◌, ◌++◌, length, get_or, sym, ap, ◌∙◌, subst, ap₂, arith}
+use Rattle.std.proofs.Common.{◌≡◌, ℕ, ◌+◌, ◌*◌, List, [], ◌∷◌, ◌++◌, length, get_or, sym, ap, ◌∙◌, subst, ap₂, arith}
 use Rattle.std.proofs.lemmas.List.Edits.{length-paste}
 use Rattle.keep_list.specs.Kept.{Kept, added}
-use Rattle.clock_bank.specs.Rows.{Rows, Shaped}
 use Rattle.events.specs.declared.event.Event.{Event}
 use Rattle.orders.specs.Traces.{local}
 use Rattle.notebook.specs.declared.log.LoggedEvent.{LoggedEvent}
@@ -31,22 +30,20 @@ entered b e row old new w k n time old-is w-is k-is n-is time-is New-is =
     }) (w-is ∙ (ap (λ (x : Kept LoggedEvent). stamped (record { log = x; stamps = b.tables.stamps; pairs = b.tables.pairs }) e row k n) old-is
     ∙ ap₂ (stamped b.tables e row) k-is n-is)) time-is
 
--- a thread's row has a number for each thread
-long_row : {rows : Rows} {stamp : List ℕ} {k t : ℕ} → Shaped rows → length rows.threads ≡ k → t < k → stamp ≡ get_or rows.threads t [] → length stamp ≡ k
-long_row shaped is below same = ap length same ∙ (shaped.thread_rows _ (omega (arith, is)) ∙ is)
-
-pub stamp-requires : goal.stamp-requires
-stamp-requires g c =
+pub stamp_from-requires : goal.stamp_from-requires
+stamp_from-requires g c =
     let n = c.args.self.now in
+    let k : ℕ = length (g.B.Bank.rows c.args.bank.now).threads in
     let room = room_of n c.args.event c.requires.admitted in
     let total = c.total-position.ensures.value in
-    let stamp : List ℕ = c.write_row.new.row in
-    let long : length stamp ≡ n.counts.threads = long_row (g.met.B.Bank.shaped c.args.bank.now) c.requires.bank_len room.thread c.write_row.ensures in
-    let timed : Timed n.tables.log (length stamp) c.total-position.result =
-    record { within = omega (arith, total); whole = n.sound.whole; inside = λ i h. omega (arith, long, n.sound.inside i h); timed = n.sound.timed } in
+    let bank_len = c.requires.bank_len in
+    let timed : Timed n.tables.log k c.total-position.result =
+    record { within = omega (arith, total); whole = n.sound.whole; inside = λ i h. omega (arith, bank_len, n.sound.inside i h); timed = n.sound.timed } in
     record {
-      timed = subst (λ (log : Kept LoggedEvent). Timed log (length stamp) c.total-position.result) (sym c.total-position.ensures.same) timed;
-      in_bounds = omega (arith, room.stamps, ap₂ ◌*◌ total long, long);
+      timed = subst (λ (log : Kept LoggedEvent). Timed log k c.total-position.result) (sym c.total-position.ensures.same) timed;
+      thread_in_bounds = omega (arith, bank_len, room.thread);
+      few = omega (arith, bank_len, n.sound.few);
+      in_bounds = omega (arith, room.stamps, ap₂ ◌*◌ total bank_len, bank_len);
     }
 
 pub overflow_add-time : goal.overflow_add-time
@@ -72,16 +69,18 @@ invariant_of-self g c =
     let cells : List ℕ = n.tables.stamps.now in
     let room = room_of n e c.requires.admitted in
     let x : LoggedEvent = record { event = e; time = get_or n.seen e.thread 0 + 1 } in
-    let stamp : List ℕ = c.write_row.new.row in
-    let long : length stamp ≡ n.counts.threads =
-    long_row (g.met.B.Bank.shaped c.args.bank.now) c.requires.bank_len room.thread c.write_row.ensures in
-    let same = ap (λ (w : Written). w.log) c.stamp.ensures ∙ c.total-position.ensures.same in
+    let rows = g.B.Bank.rows c.args.bank.now in
+    let k : ℕ = length rows.threads in
+    let stamp : List ℕ = get_or rows.threads e.thread [] in
+    let bank_len = c.requires.bank_len in
+    let long : length stamp ≡ k = (g.met.B.Bank.shaped c.args.bank.now).thread_rows e.thread (omega (arith, bank_len, room.thread)) in
+    let same = ap (λ (w : Written). w.log) c.stamp_from.ensures ∙ c.total-position.ensures.same in
     record {
       sound = sound_at c.change_lock.ensures
           (c.add.ensures ∙ (ap (λ (k : Kept LoggedEvent). added k x) same ∙ added_more log x (omega (arith, room.short))))
-          (ap (λ (w : Written). length w.stamps) c.stamp.ensures
-          ∙ length-paste cells (c.total-position.result * length stamp) stamp (length stamp)
-          (omega (arith, room.stamps, ap₂ ◌*◌ c.total-position.ensures.value long, long)) (omega arith))
+          (ap (λ (w : Written). length w.stamps) c.stamp_from.ensures
+          ∙ length-paste cells (c.total-position.result * k) stamp k
+          (omega (arith, room.stamps, ap₂ ◌*◌ c.total-position.ensures.value bank_len, bank_len)) (omega (arith, long)))
           (more_sound n.counts n.locks n.seen log (length cells) e n.sound room.thread c.requires.admitted.lock room.log room.stamps room.short);
     }
 
@@ -92,16 +91,13 @@ returns g c =
     let b = book n in
     let log = n.tables.log in
     let cells : List ℕ = n.tables.stamps.now in
-    let stamp : List ℕ = c.write_row.new.row in
+    let rows = g.B.Bank.rows c.args.bank.now in
     let room = room_of n e c.requires.admitted in
-    let long : length stamp ≡ n.counts.threads =
-    long_row (g.met.B.Bank.shaped c.args.bank.now) c.requires.bank_len room.thread c.write_row.ensures in
     let at : c.total-position.result ≡ length (events b) = c.total-position.ensures.value ∙ sym (length_events log n.sound.whole) in
     let time = new_time n.counts n.locks n.seen log (length cells) e n.sound room.thread c.requires.admitted.lock room.log room.stamps room.short in
     record {
       position = at;
-      after = entered b e stamp c.total-position.new.self c.add.new.self (written c.stamp.new.self)
-          (length stamp) c.total-position.result (get_or n.seen e.thread 0 + 1)
-          c.total-position.ensures.same c.stamp.ensures long at time c.add.ensures
-          ∙ ap (noted b e) c.write_row.ensures;
+      after = entered b e (get_or rows.threads e.thread []) c.total-position.new.self c.add.new.self (written c.stamp_from.new.self)
+          (length rows.threads) c.total-position.result (get_or n.seen e.thread 0 + 1)
+          c.total-position.ensures.same c.stamp_from.ensures c.requires.bank_len at time c.add.ensures;
     }
