@@ -14,7 +14,7 @@ use Rattle.orders.specs.Times.{Time}
 use Rattle.orders.specs.Pairs.{Pair, positions, Ahead, Rising, Lists}
 use Rattle.orders.specs.Alike.{operations, Alike, Same, SameEvents, InOther, Agree}
 use Rattle.orders.proofs.Closures.{upwards, edge_up}
-use Rattle.orders.proofs.LocalTimes.{local_is, local_within, local_less, less_from_local, local_one, local_at}
+use Rattle.orders.proofs.LocalTimes.{local_is, local_within, local_less, less_from_local, local_at, name_back, name_one}
 use Rattle.orders.proofs.Largest.{largest_named}
 use Rattle.orders.proofs.Matched.{Apart, no_more}
 use Rattle.orders.proofs.SameOrders.{SameRelations}
@@ -40,11 +40,11 @@ operation_from o (e ∷ log) t (suc i) h own =
 
 -- the same two positions seen from the other trace
 same_back : {log other : List Event} {i k : ℕ} → Same log other i k → Same other log k i
-same_back s = record { left = s.right; right = s.left; name = record { thread = sym s.name.thread; time = sym s.name.time } }
+same_back s = record { left = s.right; right = s.left; name = name_back s.name }
 
 -- one name, one event
 same_one : {log other : List Event} {i j k : ℕ} → Same log other i k → Same log other j k → i ≡ j
-same_one {log} {other} {i} {j} {k} a b = local_one log (thread_at other k) i j a.name.thread b.name.thread (a.name.time ∙ sym b.name.time)
+same_one {log} {other} {i} {j} {k} a b = name_one log other i j k a.name b.name
 
 -- the order of a thread's events is told by their names
 same_thread_order : {log other : List Event} {i j k l : ℕ} → Same log other i k → Same log other j l → InThread log i j → InThread other k l
@@ -56,11 +56,11 @@ same_thread_order {log} {other} {i} {j} {k} {l} a b e =
     record { earlier = record { first = first; inside = b.right }; one_thread = own ∙ b.name.thread }
 
 -- every event is in the other trace too, and so is the order of every two; B leads to no earlier position
-record Follows (log other : List Event) (B C : Relation) : Type 0 where
-  like : (i : ℕ) → i < length log → (k : ℕ) × Same log other i k
-  equal : (i k : ℕ) → Same log other i k → event log i ≡ event other k
-  order : (i j k l : ℕ) → Same log other i k → Same log other j l → B i j → C k l
-  upwards : (i j : ℕ) → B i j → i ≤ j
+pub record Follows (log other : List Event) (B C : Relation) : Type 0 where
+  pub like : (i : ℕ) → i < length log → (k : ℕ) × Same log other i k
+  pub equal : (i k : ℕ) → Same log other i k → event log i ≡ event other k
+  pub order : (i j k l : ℕ) → Same log other i k → Same log other j l → B i j → C k l
+  pub upwards : (i j : ℕ) → B i j → i ≤ j
 
 -- conflicts and pairs have no direction
 conflict_back : (d e : Event) → Conflict d e → Conflict e d
@@ -130,7 +130,7 @@ module _ {log other : List Event} {B C : Relation} (forth : Follows log other B 
   total_follows {ps} {qs} l m =
       no_more (SameEvents log other) ps qs (pairs_apart log other ps l.rising (λ p k. (l.placed p k).first)) (list_follows l m)
 
-follows_agree : {log other : List Event} {B C : Relation} → Follows log other B C → Follows other log C B → Agree log other B C
+pub follows_agree : {log other : List Event} {B C : Relation} → Follows log other B C → Follows other log C B → Agree log other B C
 follows_agree forth back = record {
   there = forth.like;
   here = λ k h. let w = back.like k h in (w.0, same_back w.1);
@@ -152,7 +152,7 @@ module _ (log other : List Event) (does : (t : ℕ) → operations t log ≡ ope
       (w.at, record { left = h; right = w.member; name = record { thread = sym w.own; time = sym w.time } })
 
   -- events of one name have one operation, at one place among their thread's
-  same_operation : (i k : ℕ) → Same log other i k → operation_at log i ≡ operation_at other k
+  pub same_operation : (i k : ℕ) → Same log other i k → operation_at log i ≡ operation_at other k
   same_operation i k s =
       let t = thread_at log i in
       let o = operation_at log i in
@@ -164,7 +164,7 @@ module _ (log other : List Event) (does : (t : ℕ) → operations t log ≡ ope
   same_event i k s = λ d. record { thread = s.name.thread d; operation = same_operation i k s d }
 
 -- being alike has no direction
-alike_back : (r : OrderRule) (locks : ℕ) (log other : List Event) → Alike r locks log other → Alike r locks other log
+pub alike_back : (r : OrderRule) (locks : ℕ) (log other : List Event) → Alike r locks log other → Alike r locks other log
 alike_back r locks log other alike = record {
   does = λ t. sym (alike.does t);
   finds = λ i j s same takes.
@@ -185,7 +185,7 @@ module _ (r : OrderRule) (locks : ℕ) (log other : List Event) (alike : Alike r
       then (before_follows before k w.at a same) (slot_edge s b.right (cc (same_operation log other alike.does j l b)) w.last)
 
   -- so it is under any relations that are the same as the rule's order
-  alike_follows : (B C : Relation) → SameRelations (Before r locks log) B → SameRelations (Before r locks other) C → Follows log other B C
+  pub alike_follows : (B C : Relation) → SameRelations (Before r locks log) B → SameRelations (Before r locks other) C → Follows log other B C
   alike_follows B C b c = record {
     like = find_like log other alike.does;
     equal = same_event log other alike.does;

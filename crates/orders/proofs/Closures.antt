@@ -15,7 +15,7 @@ module _ {E : Relation} where
   one_edge e = then self e
 
   -- a reflexive and transitive relation that contains the edges contains the chains
-  closed_in : (R : Relation) → Preorder R → Contains R E → {i j : ℕ} → Closure E i j → R i j
+  pub closed_in : (R : Relation) → Preorder R → Contains R E → {i j : ℕ} → Closure E i j → R i j
   closed_in R order contains {i} self = order.reflexive i
   closed_in R order contains (then {i = i} {j = j} {k = k} b e) = order.transitive i j k (closed_in R order contains b) (contains j k e)
 

@@ -18,7 +18,7 @@ use Rattle.orders.proofs.Listing.{lists_one, lists_by_test}
 
 module _ (r : OrderRule) (law : Lawful r) (c : Counts) (log : List Event) (inside : Inside c log) where
   -- of an earlier and a later position the test tells whether they are a pair
-  unseen_decides : (i j : ℕ) → Earlier log i j → Decides (unseen r c log i j) (Pair (Before r c.locks log) log i j)
+  pub unseen_decides : (i j : ℕ) → Earlier log i j → Decides (unseen r c log i j) (Pair (Before r c.locks log) log i j)
   unseen_decides i j h = Decides-like (unseen r c log i j)
       (λ w. record {
         conflict = w.0;

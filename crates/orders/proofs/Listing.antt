@@ -18,10 +18,10 @@ record ListedWith (test : ℕ → Bool) (j n : ℕ) (p : PositionPair) : Type 0 
   passes : test p.earlier ≡ true
 
 -- what a listed pair of positions below n tells
-record Listed (test : ℕ → ℕ → Bool) (n : ℕ) (p : PositionPair) : Type 0 where
-  first : p.earlier < p.later
-  below : p.later < n
-  passes : test p.earlier p.later ≡ true
+pub record Listed (test : ℕ → ℕ → Bool) (n : ℕ) (p : PositionPair) : Type 0 where
+  pub first : p.earlier < p.later
+  pub below : p.later < n
+  pub passes : test p.earlier p.later ≡ true
 
 -- what an element of a list of one pair or none tells
 one_sound : (b : Bool) (i j : ℕ) (p : PositionPair) → Memᴰ p (cond b (positions i j ∷ []) [])
@@ -49,14 +49,14 @@ with_whole test j (suc n) i h t = elim (cases_lt i n) [
 ]
 
 -- the same of all pairs of positions below n
-below_sound : (test : ℕ → ℕ → Bool) (n : ℕ) (p : PositionPair) → Memᴰ p (pairs_below test n) → Listed test n p
+pub below_sound : (test : ℕ → ℕ → Bool) (n : ℕ) (p : PositionPair) → Memᴰ p (pairs_below test n) → Listed test n p
 below_sound test zero p m = absurd (Memᴰ.not-nil m)
 below_sound test (suc n) p m = elim (Memᴰ.append_cases (pairs_below test n) m) [
   | inl k ↦ let w = below_sound test n p k in record { first = w.first; below = omega arith; passes = w.passes }
   | inr k ↦ let w = with_sound (λ i. test i n) n n p k in record { first = omega arith; below = omega arith; passes = cc }
 ]
 
-below_whole : (test : ℕ → ℕ → Bool) (n i j : ℕ) → i < j → j < n → test i j ≡ true → Memᴰ (positions i j) (pairs_below test n)
+pub below_whole : (test : ℕ → ℕ → Bool) (n i j : ℕ) → i < j → j < n → test i j ≡ true → Memᴰ (positions i j) (pairs_below test n)
 below_whole test zero i j h b t = absurd (omega arith)
 below_whole test (suc n) i j h b t = elim (cases_lt j n) [
   | inl a ↦ Memᴰ.append_left _ (below_whole test n i j h a t)
@@ -87,7 +87,7 @@ with_rising test j zero = tt
 with_rising test j (suc n) = rising_append (pairs_with test j n) _ (with_rising test j n) (one_rising (test n) (positions n j))
     (λ p q m k. let v = with_sound test j n p m in let w = one_sound (test n) n j q k in inr (omega arith, omega arith))
 
-below_rising : (test : ℕ → ℕ → Bool) (n : ℕ) → Rising (pairs_below test n)
+pub below_rising : (test : ℕ → ℕ → Bool) (n : ℕ) → Rising (pairs_below test n)
 below_rising test zero = tt
 below_rising test (suc n) = rising_append (pairs_below test n) _ (below_rising test n) (with_rising (λ i. test i n) n n)
     (λ p q m k. inl (omega (arith, (below_sound test n p m).below, (with_sound (λ i. test i n) n n q k).at)))
@@ -96,16 +96,20 @@ below_rising test (suc n) = rising_append (pairs_below test n) _ (below_rising t
 ahead_one_way : (p q : PositionPair) → Ahead p q → Ahead q p → ⊥
 ahead_one_way p q a b = grind arith
 
+-- a rising list has no element twice
+pub rising_apart : (p : PositionPair) (ps : List PositionPair) → Rising (p ∷ ps) → Memᴰ p ps → ⊥
+rising_apart p ps a m = ahead_one_way p p (a.0 p m) (a.0 p m)
+
 -- of lists with the same head, if a rising one is inside another, so is its tail inside the other's tail
 tail_inside : {p q : PositionPair} (ps qs : List PositionPair) → p ≡ q → Rising (p ∷ ps)
     → ((r : PositionPair) → Memᴰ r (p ∷ ps) → Memᴰ r (q ∷ qs)) → (r : PositionPair) → Memᴰ r ps → Memᴰ r qs
 tail_inside {p} ps qs e a inside r m = elim (Memᴰ.cases_cons (inside r (Memᴰ.tail m))) [
-  | inl z ↦ let twice = a.0 p (Memᴰ.cast (e ∙ sym z) m) in absurd (ahead_one_way p p twice twice)
+  | inl z ↦ absurd (rising_apart p ps a (Memᴰ.cast (e ∙ sym z) m))
   | inr k ↦ k
 ]
 
 -- two rising lists with the same elements are one
-rising_one : (ps qs : List PositionPair) → Rising ps → Rising qs → ((p : PositionPair) → Memᴰ p ps → Memᴰ p qs)
+pub rising_one : (ps qs : List PositionPair) → Rising ps → Rising qs → ((p : PositionPair) → Memᴰ p ps → Memᴰ p qs)
     → ((p : PositionPair) → Memᴰ p qs → Memᴰ p ps) → ps ≡ qs
 rising_one [] [] a b f g = refl
 rising_one [] (q ∷ qs) a b f g = absurd (Memᴰ.not-nil (g q (Memᴰ.head refl)))

@@ -1,10 +1,10 @@
 -- Local times count up within a thread. Assumes nothing.
-use Rattle.std.proofs.Common.{◌≡◌, ℕ, zero, suc, ◌<◌, ◌≤◌, List, ap, inl, inr, arith}
+use Rattle.std.proofs.Common.{◌≡◌, ℕ, zero, suc, ◌<◌, ◌≤◌, List, sym, ap, ◌∙◌, inl, inr, arith}
 use native.Mathlib.Decide.{ℕ_discrete, le_ind}
 use Rattle.std.proofs.lemmas.Bool.{eq-eqb, ne_eqb, cases_lt}
 use Rattle.std.proofs.lemmas.Bool.Decides.{nat_tests}
 use Rattle.events.specs.declared.event.Event.{Event}
-use Rattle.orders.specs.Traces.{thread_at, count, local}
+use Rattle.orders.specs.Traces.{thread_at, count, local, SameName}
 use Rattle.orders.specs.Times.{Reached}
 
 module _ (log : List Event) where
@@ -49,3 +49,10 @@ module _ (log : List Event) where
       | no e ↦ absurd (omega (arith, count_other t n e))
     ]
   ]
+
+pub name_back : {log other : List Event} {i j : ℕ} → SameName log other i j → SameName other log j i
+name_back n = record { thread = sym n.thread; time = sym n.time }
+
+-- one name, one event
+pub name_one : (log other : List Event) (i j k : ℕ) → SameName log other i k → SameName log other j k → i ≡ j
+name_one log other i j k a b = local_one log (thread_at other k) i j a.thread b.thread (a.time ∙ sym b.time)

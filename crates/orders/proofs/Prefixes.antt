@@ -8,7 +8,7 @@ use Rattle.orders.specs.declared.counts.Counts.{Counts}
 use Rattle.orders.specs.declared.pair.PositionPair.{PositionPair}
 use Rattle.orders.specs.Traces.{no_event, event, thread_at, count, local}
 use Rattle.orders.specs.Accepted.{HasObject, holder, Accepted}
-use Rattle.orders.specs.Orders.{Relation, Closure, self, then, InThread, Last, Edge, thread_edge, slot_edge, Edge1, thread_edge_1, lock_edge, Edge2, order_edge, write_edge}
+use Rattle.orders.specs.Orders.{Relation, Closure, self, then, InThread, Last, Edge, thread_edge, slot_edge, Before, Edge1, thread_edge_1, lock_edge, Order1, Edge2, order_edge, write_edge, Order2}
 use Rattle.orders.specs.Stamps.{after, stamp, unseen_by, unseen, pairs_with, pairs_below, found}
 use Rattle.orders.specs.Theorems.{LaterEventsChangeNothing}
 use Rattle.orders.proofs.Closures.{edge_up, edge_1_up, edge_2_up}
@@ -75,12 +75,22 @@ module _ (n : ℕ) (log other : List Event) (s : Shares n log other) (fits : n �
   edge_2_kept i j h (write_edge v inside read last) =
       write_edge v (omega arith) (cc (s j h)) (last_kept (λ e. e.operation ≡ Write v) i j h last)
 
+  -- and so do the orders of these events
+  pub before_shared : (r : OrderRule) (locks i j : ℕ) → j < n → Before r locks log i j → Before r locks other i j
+  before_shared r locks i j h b = kept n (edge_up r locks log) (edge_kept r locks) b h
+
+  pub order_1_shared : (i j : ℕ) → j < n → Order1 log i j → Order1 other i j
+  order_1_shared i j h b = kept n (edge_1_up log) edge_1_kept b h
+
+  pub order_2_shared : (i j : ℕ) → j < n → Order2 log i j → Order2 other i j
+  order_2_shared i j h b = kept n (edge_2_up log) edge_2_kept b h
+
 -- two tests that agree below n list the same pairs
-with_shared : (test other : ℕ → Bool) (j n : ℕ) → ((i : ℕ) → i < n → test i ≡ other i) → pairs_with test j n ≡ pairs_with other j n
+pub with_shared : (test other : ℕ → Bool) (j n : ℕ) → ((i : ℕ) → i < n → test i ≡ other i) → pairs_with test j n ≡ pairs_with other j n
 with_shared test other j zero s = refl
 with_shared test other j (suc n) s = cc (with_shared test other j n (λ i h. s i (omega arith)), s n (omega arith))
 
-below_shared : (test other : ℕ → ℕ → Bool) (n : ℕ) → ((i j : ℕ) → i < j → j < n → test i j ≡ other i j)
+pub below_shared : (test other : ℕ → ℕ → Bool) (n : ℕ) → ((i j : ℕ) → i < j → j < n → test i j ≡ other i j)
     → pairs_below test n ≡ pairs_below other n
 below_shared test other zero s = refl
 below_shared test other (suc n) s = cc (
@@ -89,7 +99,7 @@ below_shared test other (suc n) s = cc (
 )
 
 -- so are the pairs found
-unseen_shared : (r : OrderRule) (c : Counts) (n : ℕ) (log other : List Event) → Shares n log other
+pub unseen_shared : (r : OrderRule) (c : Counts) (n : ℕ) (log other : List Event) → Shares n log other
     → (i j : ℕ) → i < j → j < n → unseen r c log i j ≡ unseen r c other i j
 unseen_shared r c n log other s i j a b =
     cc (s i (omega arith), s j b, stamp_shared r c n log other s j b, local_shared n log other s i (omega arith))
@@ -162,16 +172,16 @@ module _ (log more : List Event) where
   later_events = record {
     local_time = local_shared n longer log forth;
     rule = λ r locks i j h. (
-      λ b. kept n (edge_up r locks longer) (edge_kept n longer log forth (omega arith) r locks) b h,
-      λ b. kept n (edge_up r locks log) (edge_kept n log longer back long r locks) b h,
+      before_shared n longer log forth (omega arith) r locks i j h,
+      before_shared n log longer back long r locks i j h,
     );
     order_1 = λ i j h. (
-      λ b. kept n (edge_1_up longer) (edge_1_kept n longer log forth (omega arith)) b h,
-      λ b. kept n (edge_1_up log) (edge_1_kept n log longer back long) b h,
+      order_1_shared n longer log forth (omega arith) i j h,
+      order_1_shared n log longer back long i j h,
     );
     order_2 = λ i j h. (
-      λ b. kept n (edge_2_up longer) (edge_2_kept n longer log forth (omega arith)) b h,
-      λ b. kept n (edge_2_up log) (edge_2_kept n log longer back long) b h,
+      order_2_shared n longer log forth (omega arith) i j h,
+      order_2_shared n log longer back long i j h,
     );
     stamps = λ r c. stamp_shared r c n longer log forth;
     pairs = pairs_begin;

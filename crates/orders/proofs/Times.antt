@@ -208,7 +208,7 @@ module _ (r : OrderRule) (law : Lawful r) (c : Counts) (log : List Event) (insid
   stamp_time i t h below = rw (stamp_is i h) (new_right i (after r c log i) h (after_right i (omega arith)) t below)
 
 -- times tell an order that contains the order of each thread's events
-told : (B : Relation) (log : List Event) → Preorder B → ((i j : ℕ) → B i j → i ≤ j) → Contains B (InThread log) → ToldByTimes B log
+pub told : (B : Relation) (log : List Event) → Preorder B → ((i j : ℕ) → B i j → i ≤ j) → Contains B (InThread log) → ToldByTimes B log
 told B log order up threads i j v inside below time = (λ b. time.bound i b refl, λ h. back h time.met)
   where
     back : local log i ≤ v → (v ≡ 0) ⊎ Reached log (λ k. B k j) (thread_at log i) v → B i j
