@@ -1,21 +1,25 @@
 -- Where a table's rows lie, and what a write of a row makes of them. Assumes nothing.
 use Rattle.std.proofs.Common.{◌≡◌, ℕ, zero, suc, ◌+◌, ◌-◌, ◌*◌, ◌<◌, ◌≤◌, List, [], ◌++◌, length, get_or, take, drop, set, replicate, Option, sym, refl, ap, ◌∙◌, suc-mul, add-mul, zero-mul, arith, rules}
 use borrow.Rule.Slice.PartMut.{put_mid}
-use Rattle.std.proofs.lemmas.List.{places, same_lists, length-drop, length-replicate, drop-drop, take_at, drop_at, take-append-le, drop-append-le, take-replicate, drop-replicate}
+use Rattle.std.proofs.lemmas.List.{places, same_lists, get_or_past, length-drop, length-replicate, drop-drop, take_at, drop_at, take-append-le, drop-append-le, take-replicate, drop-replicate}
 use Rattle.std.proofs.lemmas.Bool.Decides.{nat_tests}
 use Rattle.std.proofs.lemmas.Slice.{take-put_mid_below, drop-put_mid}
-use Rattle.clock_bank.specs.Rows.{Rows, fresh, grown, joined, posted, new_row, advanced}
+use Rattle.clock_bank.specs.Rows.{Rows, fresh, entry, grown, joined, posted, new_row, advanced}
 use Rattle.clock_bank.specs.Runs.{run}
 use Rattle.flat_bank.specs.Flat as flat
 use Rattle.flat_bank.specs.Flat.{rows_in, flat_rows, cleared}
 use Rattle.flat_bank.specs.Shape.{length_rows, row_at, row_within}
 
-same_rows : {a b c d : List (List ℕ)} → a ≡ b → c ≡ d → ◌≡◌ {A = Rows} (record { threads = a; slots = c }) (record { threads = b; slots = d })
+pub same_rows : {a b c d : List (List ℕ)} → a ≡ b → c ≡ d → ◌≡◌ {A = Rows} (record { threads = a; slots = c }) (record { threads = b; slots = d })
 same_rows e f = cc
 
 -- the rows of the slots lie behind those of the threads
 pub slot_at : (s k p : ℕ) (cells : List ℕ) → p < s → get_or (rows_in s k (drop (k * k) cells)) p [] ≡ run ((k + p) * k) k cells
 slot_at s k p cells h = row_at s k p (drop (k * k) cells) h ∙ ap (take k) (drop-drop (p * k) (k * k) cells ∙ ap (λ (a : ℕ). drop a cells) (sym (add-mul k p k)))
+
+-- and an entry of a thread that there is not is 0
+pub no_entry : (k s : ℕ) (cells : List ℕ) (t u : ℕ) → k ≤ t → entry (flat_rows k s cells).threads t u ≡ 0
+no_entry k s cells t u h = ap (λ (row : List ℕ). get_or row u 0) (get_or_past (rows_in k k cells) t [] (omega (arith, length_rows k k cells)))
 
 -- what lies behind the rows is not read
 pub rows_before : (n k : ℕ) (front back : List ℕ) → n * k ≤ length front → rows_in n k (front ++ back) ≡ rows_in n k front

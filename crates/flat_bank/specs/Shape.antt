@@ -21,8 +21,11 @@ row_at (suc n) k (suc q) cells h =
 pub row_within : (q n k : ℕ) → q < n → q * k + k ≤ n * k
 row_within q n k h = omega (arith, suc-mul q k, mul-le-mul_right k h)
 
+pub length_run : (at n : ℕ) (cells : List ℕ) → at + n ≤ length cells → length (run at n cells) ≡ n
+length_run at n cells h = simp (length-take, length-drop) (omega arith)
+
 pub row_long : (n k q : ℕ) (cells : List ℕ) → q < n → n * k ≤ length cells → length (slice_index_or (rows_in n k cells) q []) ≡ k
-row_long n k q cells h fits = ap length (row_at n k q cells h) ∙ simp (length-take, length-drop) (omega (arith, row_within q n k h))
+row_long n k q cells h fits = ap length (row_at n k q cells h) ∙ length_run (q * k) k cells (omega (arith, row_within q n k h))
 
 pub flat_shaped : (k s : ℕ) (cells : List ℕ) → places k s ≤ length cells → Shaped (flat_rows k s cells)
 flat_shaped k s cells fits = record {
