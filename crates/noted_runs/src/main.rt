@@ -78,17 +78,17 @@ impl<'a> Report<'a> {
         Ok(())
     }
 
-    // Notes a run, and prints what came of it.
+    // Prints what came of the steps of a run.
     fn show_steps<B: Bank, R: Rule>(
         &mut self,
         session: &mut Session<'_, B, R>,
         run: &Run,
+        outcomes: &[Option<Result<u16, NotebookFault>>],
         times: &str,
     ) -> anyhow::Result<()> {
         let mut times = times.split_whitespace();
-        for (at, step) in run.steps.iter().enumerate() {
-            let outcome = session.act(run, at, *step);
-            self.show_step(session, *step, outcome, &mut times)?;
+        for (step, outcome) in run.steps.iter().zip(outcomes.iter()) {
+            self.show_step(session, *step, *outcome, &mut times)?;
         }
         if times.next().is_some() {
             bail!("more times are expected than there are events");
@@ -135,7 +135,8 @@ impl<'a> Report<'a> {
             notebook: Notebook::new(run.counts, R::NUMBER, log, stamps, pairs),
             rule,
         };
-        self.show_steps(&mut session, run, expected.times)?;
+        let outcomes = session.act_all(run)?;
+        self.show_steps(&mut session, run, &outcomes, expected.times)?;
         self.show_answers(&mut session, expected)
     }
 

@@ -85,8 +85,20 @@ impl<'a, B: Bank, R: Rule> Session<'a, B, R> {
         note(&mut self.bank, &mut self.notebook, &self.rule, event)
     }
 
+    // Does all steps of a run, before anything is printed of them.
+    pub fn act_all(
+        &mut self,
+        run: &Run,
+    ) -> Result<Vec<Option<Result<u16, NotebookFault>>>, AllocError> {
+        let mut outcomes = Vec::new(self.heap);
+        for (at, step) in run.steps.iter().enumerate() {
+            outcomes.push(self.act(run, at, *step))?;
+        }
+        Ok(outcomes)
+    }
+
     // Does the step at a position of a run. The outcome is that of the last event noted, if any is.
-    pub fn act(&mut self, run: &Run, at: usize, step: Step) -> Option<Result<u16, NotebookFault>> {
+    fn act(&mut self, run: &Run, at: usize, step: Step) -> Option<Result<u16, NotebookFault>> {
         match step {
             Step::Note(event, _) => Some(self.note(event)),
             Step::Again(times) => {

@@ -9,6 +9,7 @@ use events::happens_before::HappensBefore;
 use events::rule::Rule;
 use events::schedulable::Schedulable;
 use flat_bank::FlatBank;
+use run_script::lists::listed;
 use run_script::order::Order;
 use std::alloc::{AllocError, Global};
 
@@ -89,15 +90,19 @@ pub fn replay(heap: Global, run: &Run, number: u16) -> anyhow::Result<Vec<TimedE
 }
 
 // The pairs as text to be compared, as 0-1 0-2, or none: of each event with the earlier ones that it leaves unseen. They
-// can be many, so that each is written down at once, and no list of them is kept.
+// can be many, so that those of one event are made a text before the next event's are sought.
 pub fn pair_text(heap: Global, events: &[TimedEvent]) -> Result<String, AllocError> {
-    let mut text = String::new(heap);
+    let mut lists = Vec::new(heap);
     for (later, this) in events.iter().enumerate() {
+        let mut pairs = Vec::new(heap);
         for (earlier, other) in events.iter().take(later).enumerate() {
             if other.is_unseen_by(this) {
-                text.push_str(&format!(in heap; " {earlier}-{later}")?)?;
+                pairs.push(format!(in heap; "{earlier}-{later}")?)?;
             }
         }
+        if !pairs.is_empty() {
+            lists.push(listed(heap, &pairs)?)?;
+        }
     }
-    String::from_str(heap, text.strip_prefix(" ").unwrap_or("none"))
+    listed(heap, &lists)
 }
