@@ -98,7 +98,7 @@ impl<'a, B: Bank, R: Rule> Session<'a, B, R> {
     }
 
     // Does the step at a position of a run. The outcome is that of the last event noted, if any is.
-    fn act(&mut self, run: &Run, at: usize, step: Step) -> Option<Result<u16, NotebookFault>> {
+    pub fn act(&mut self, run: &Run, at: usize, step: Step) -> Option<Result<u16, NotebookFault>> {
         match step {
             Step::Note(event, _) => Some(self.note(event)),
             Step::Again(times) => {

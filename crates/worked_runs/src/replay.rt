@@ -90,19 +90,18 @@ pub fn replay(heap: Global, run: &Run, number: u16) -> anyhow::Result<Vec<TimedE
 }
 
 // The pairs as text to be compared, as 0-1 0-2, or none: of each event with the earlier ones that it leaves unseen. They
-// can be many, so that those of one event are made a text before the next event's are sought.
+// can be many, so that each is written down at once, and no list of them is kept.
 pub fn pair_text(heap: Global, events: &[TimedEvent]) -> Result<String, AllocError> {
-    let mut lists = Vec::new(heap);
+    let mut text = String::new(heap);
     for (later, this) in events.iter().enumerate() {
-        let mut pairs = Vec::new(heap);
         for (earlier, other) in events.iter().take(later).enumerate() {
             if other.is_unseen_by(this) {
-                pairs.push(format!(in heap; "{earlier}-{later}")?)?;
+                text.push_str(&format!(in heap; " {earlier}-{later}")?)?;
             }
         }
-        if !pairs.is_empty() {
-            lists.push(listed(heap, &pairs)?)?;
-        }
     }
-    listed(heap, &lists)
+    match text.strip_prefix(" ") {
+        Some(pairs) => String::from_str(heap, pairs),
+        None => listed(heap, &[]),
+    }
 }
