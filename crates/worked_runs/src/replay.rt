@@ -9,7 +9,6 @@ use events::happens_before::HappensBefore;
 use events::rule::Rule;
 use events::schedulable::Schedulable;
 use flat_bank::FlatBank;
-use run_script::lists::listed;
 use run_script::order::Order;
 use std::alloc::{AllocError, Global};
 
@@ -100,8 +99,5 @@ pub fn pair_text(heap: Global, events: &[TimedEvent]) -> Result<String, AllocErr
             }
         }
     }
-    match text.strip_prefix(" ") {
-        Some(pairs) => String::from_str(heap, pairs),
-        None => listed(heap, &[]),
-    }
+    String::from_str(heap, text.strip_prefix(" ").unwrap_or("none"))
 }
